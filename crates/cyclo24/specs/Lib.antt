@@ -1,0 +1,2 @@
+pub mod FieldOn
+pub mod ExactField

@@ -1,0 +1,9 @@
+//! The exact numbers of the program: fields of exact values, kept in 128 bits or refused.
+//!
+//! Source: Washington, Introduction to Cyclotomic Fields, chapter 2, for the 24th roots of unity.
+//! The contract for the layers above is the trait `Field`.
+#![tactic(auto)]
+
+mod field;
+
+pub use field::{Field, Wide};

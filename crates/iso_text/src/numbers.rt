@@ -1,0 +1,34 @@
+// Numbers as a file's words give them.
+
+/// A fraction `num / den`, the denominator above 0.
+#[derive(Clone, Copy, Debug, PartialEq, Eq, Default, Hash)]
+pub struct Frac {
+    pub num: i32,
+    pub den: u8,
+}
+
+/// What a term of a number is a multiple of.
+#[derive(Clone, Copy, Debug, PartialEq, Eq)]
+pub enum Unit {
+    /// 1
+    One,
+    /// the power 0 to 23 of z = exp(2 pi i / 24)
+    Z(u8),
+    /// the imaginary unit, z to the power 6
+    I,
+    /// the positive square root of 2
+    R2,
+    /// the positive square root of 3
+    R3,
+    /// the positive square root of 6
+    R6,
+}
+
+/// A term `num / den` times a unit. From a file: the numerator is at most 10,000 in absolute value,
+/// and the denominator one of 1, 2, 3, 4, 6, 8, 12, 24.
+#[derive(Clone, Copy, Debug, PartialEq, Eq)]
+pub struct Term {
+    pub num: i32,
+    pub den: u8,
+    pub unit: Unit,
+}
