@@ -1,3 +1,6 @@
+pub mod Counts
+pub mod Memory
 pub mod Name
 pub mod NameView
 pub mod NumberedGroup
+pub mod Streams
