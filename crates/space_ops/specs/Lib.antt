@@ -1,0 +1,9 @@
+pub mod Ring
+pub mod Whole
+pub mod Matrix
+pub mod Seitz
+pub mod Op
+pub mod OpText
+pub mod Lattice
+pub mod OpTextLaws
+pub mod SeitzLaws

@@ -1,0 +1,72 @@
+-- Operations as Seitz operations over the whole numbers, translations in twelfths.
+--
+-- matrix_of rot, vector_of shift, seitz_of op: what the code's arrays stand for
+-- op_of g: the operation with these parts
+-- product_of a b: {R|t}{S|s} = {RS | t + R s}, not reduced
+-- IsWithin n x: x is at most n in absolute value
+-- IsSmallRotation rot: entries from -3 to 3
+-- IsShiftWithin n shift: each coordinate is at most n in absolute value
+use Rattle.std.specs.Prelude.{ℕ, ℤ, pos, ◌+ℤ◌, ◌≤ℤ◌, List, [], ◌∷◌, slice_index_or}
+use Rattle.space_ops.specs.declared.op.Op.{Op}
+use Rattle.space_ops.specs.Whole.{whole}
+use Rattle.space_ops.specs.Matrix.{Matrix, Vector, row_times}
+use Rattle.space_ops.specs.Seitz.{Seitz, seitz_product}
+
+abbrev pub number_at : List ℤ → ℕ → ℤ
+number_at row i = slice_index_or row i (pos 0)
+
+abbrev pub row_at : List (List ℤ) → ℕ → List ℤ
+row_at rot i = slice_index_or rot i []
+
+-- the column with these coordinates
+abbrev pub vector_of : List ℤ → Vector ℤ
+vector_of shift = record { x = number_at shift 0; y = number_at shift 1; z = number_at shift 2 }
+
+-- the matrix with these rows
+abbrev pub matrix_of : List (List ℤ) → Matrix ℤ
+matrix_of rot = record {
+  r00 = number_at (row_at rot 0) 0;
+  r01 = number_at (row_at rot 0) 1;
+  r02 = number_at (row_at rot 0) 2;
+  r10 = number_at (row_at rot 1) 0;
+  r11 = number_at (row_at rot 1) 1;
+  r12 = number_at (row_at rot 1) 2;
+  r20 = number_at (row_at rot 2) 0;
+  r21 = number_at (row_at rot 2) 1;
+  r22 = number_at (row_at rot 2) 2;
+}
+
+abbrev pub seitz_of : Op → Seitz ℤ
+seitz_of op = record { rot = matrix_of op.rot; shift = vector_of op.shift }
+
+-- the coordinates in order
+abbrev pub shift_of : Vector ℤ → List ℤ
+shift_of v = v.x ∷ v.y ∷ v.z ∷ []
+
+-- the rows in order
+abbrev pub rows_of : Matrix ℤ → List (List ℤ)
+rows_of a = (a.r00 ∷ a.r01 ∷ a.r02 ∷ []) ∷ (a.r10 ∷ a.r11 ∷ a.r12 ∷ []) ∷ (a.r20 ∷ a.r21 ∷ a.r22 ∷ []) ∷ []
+
+abbrev pub op_of : Seitz ℤ → Op
+op_of g = record { rot = rows_of g.rot; shift = shift_of g.shift }
+
+-- a row times a matrix
+abbrev pub product_row : List ℤ → List (List ℤ) → List ℤ
+product_row row rot =
+    let a = matrix_of rot in
+    let times = row_times whole (number_at row 0) (number_at row 1) (number_at row 2) in
+    times a.r00 a.r10 a.r20 ∷ times a.r01 a.r11 a.r21 ∷ times a.r02 a.r12 a.r22 ∷ []
+
+-- {R|t}{S|s} = {RS | t + R s}
+unfoldable pub product_of : Op → Op → Op
+product_of a b = op_of (seitz_product whole (seitz_of a) (seitz_of b))
+
+-- from -n to n
+abbrev pub IsWithin : ℕ → ℤ → Type 0
+IsWithin n x = (pos 0 ≤ℤ (pos n +ℤ x)) × (x ≤ℤ pos n)
+
+abbrev pub IsShiftWithin : ℕ → List ℤ → Type 0
+IsShiftWithin n shift = IsWithin n (number_at shift 0) × IsWithin n (number_at shift 1) × IsWithin n (number_at shift 2)
+
+abbrev pub IsSmallRotation : List (List ℤ) → Type 0
+IsSmallRotation rot = IsShiftWithin 3 (row_at rot 0) × IsShiftWithin 3 (row_at rot 1) × IsShiftWithin 3 (row_at rot 2)

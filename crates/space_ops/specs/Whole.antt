@@ -1,0 +1,8 @@
+-- The ring of the whole numbers.
+--
+-- whole: its numerals and operations
+use Rattle.std.specs.Prelude.{ℤ, pos, ◌+ℤ◌, ◌*ℤ◌, neg_ℤ}
+use Rattle.space_ops.specs.Ring.{Ops}
+
+abbrev pub whole : Ops ℤ
+whole = record { num = pos; neg = neg_ℤ; add = ◌+ℤ◌; mul = ◌*ℤ◌ }

@@ -1,0 +1,45 @@
+// The lattices of the Hall symbols.
+ghost use Rattle.std.specs.Prelude.{◌≡◌, ◌<◌, length};
+ghost use Rattle.space_ops.specs.Lattice.{centrings_of};
+
+use arrayvec::ArrayVec;
+
+/// A lattice by its letter in a Hall symbol: primitive, one face centred, body centred,
+/// rhombohedral on hexagonal axes (obverse), or all faces centred.
+#[derive(Clone, Copy, Debug, PartialEq, Eq)]
+pub enum Lattice {
+    P,
+    A,
+    B,
+    C,
+    I,
+    R,
+    F,
+}
+
+impl Lattice {
+    /// The centring vectors in twelfths of a cell edge, the zero vector first.
+    pub fn centrings(self) -> ArrayVec<[i32; 3], 4>
+        ensures { result.items ≡ centrings_of self }
+    {
+        let mut vectors: ArrayVec<[i32; 3], 4> = ArrayVec::new();
+        vectors.push([0, 0, 0]);
+        match self {
+            Lattice::P => {}
+            Lattice::A => vectors.push([0, 6, 6]),
+            Lattice::B => vectors.push([6, 0, 6]),
+            Lattice::C => vectors.push([6, 6, 0]),
+            Lattice::I => vectors.push([6, 6, 6]),
+            Lattice::R => {
+                vectors.push([8, 4, 4]);
+                vectors.push([4, 8, 8]);
+            }
+            Lattice::F => {
+                vectors.push([0, 6, 6]);
+                vectors.push([6, 0, 6]);
+                vectors.push([6, 6, 0]);
+            }
+        }
+        vectors
+    }
+}

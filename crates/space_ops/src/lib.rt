@@ -1,0 +1,14 @@
+//! Symmetry operations in Seitz notation, the lattices of the Hall symbols, and groups of operations.
+//!
+//! Conventions: coordinates are columns, `x' = R x + t`; matrices stand row by row; translations are
+//! in twelfths of a cell edge. Hall symbols: S. R. Hall, Acta Cryst. A37 (1981) 517.
+#![tactic(auto)]
+
+mod lattice;
+mod op;
+mod op_text;
+mod rotation;
+mod shift;
+
+pub use lattice::Lattice;
+pub use op::{Op, TWELFTHS};

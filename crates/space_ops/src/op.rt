@@ -1,0 +1,33 @@
+// Symmetry operations in Seitz notation.
+ghost use Rattle.std.specs.Prelude.{◌≡◌};
+ghost use Rattle.space_ops.specs.Op.{IsSmallRotation, IsShiftWithin, product_of};
+
+use crate::rotation::{moved, rotation_product};
+use crate::shift::shift_sum;
+
+/// The units of a translation: twelfths of a cell edge.
+pub const TWELFTHS: i32 = 12;
+
+/// A symmetry operation {R|t}, `x' = R x + t`: the rows of R, and t in twelfths of a cell edge.
+#[derive(Clone, Copy, Debug, Default, PartialEq, Eq)]
+pub struct Op {
+    pub rot: [[i8; 3]; 3],
+    pub shift: [i32; 3],
+}
+
+impl Op {
+    /// The product {R|t}{S|s} = {RS | t + R s}, its translation not reduced. Condition: entries from
+    /// -3 to 3, translations at most 1,000,000 in absolute value.
+    pub fn compose(self, other: Op) -> Op
+        requires left { IsSmallRotation self.rot }
+        requires left_shift { IsShiftWithin 1000000 self.shift }
+        requires right { IsSmallRotation other.rot }
+        requires right_shift { IsShiftWithin 1000000 other.shift }
+        ensures { result ≡ product_of self other }
+    {
+        Op {
+            rot: rotation_product(self.rot, other.rot),
+            shift: shift_sum(self.shift, moved(self.rot, other.shift)),
+        }
+    }
+}
