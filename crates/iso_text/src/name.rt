@@ -9,7 +9,7 @@ use std::marker::Model;
 pub const NAME_BYTES: usize = 16;
 
 /// A word of 1 to 16 bytes, seen as the list of its bytes.
-#[derive(Clone, Copy, PartialEq, Eq)]
+#[derive(Clone, Copy, Debug, PartialEq, Eq)]
 pub struct Name {
     bytes: [u8; 16],
     len: usize,

@@ -1,0 +1,4 @@
+pub mod FileLemmas
+pub mod GroupLemmas
+pub mod ListingLemmas
+pub mod MemberLemmas

@@ -1,0 +1,7 @@
+use Rattle.std.proofs.Common.{◌≡◌, ℕ, slice_index_or}
+use Rattle.iso_report.specs.SignDirections.{HasMembers}
+use Rattle.iso_report.specs.declared.sign_file.Sign.TheVariants.{Plus}
+use Rattle.iso_report.proofs.directions.kernel.Given as goal
+
+abbrev pub invariant-loop-q : goal.invariant-loop-q
+invariant-loop-q l = HasMembers l.q (λ q. slice_index_or l.values q Plus ≡ Plus) l.numbers.items

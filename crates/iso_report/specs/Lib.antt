@@ -1,0 +1,9 @@
+pub mod Action
+pub mod Directions
+pub mod SignRep
+pub mod SeenDirections
+pub mod SignDirections
+pub mod SignFile
+pub mod Report
+pub mod Outcome
+pub mod Endings

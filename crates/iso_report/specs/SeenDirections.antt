@@ -1,0 +1,13 @@
+-- What the program's directions stand for.
+--
+-- seen ds: the directions with their equations
+use Rattle.std.specs.Prelude.{List, map}
+use Rattle.iso_report.specs.Directions.{Direction}
+use Rattle.iso_report.specs.SignDirections.{direction_of}
+use Rattle.iso_report.specs.declared.direction.SignDirection.{SignDirection}
+
+abbrev pub seen_one : SignDirection → Direction
+seen_one d = direction_of d.dim d.stabiliser.items
+
+abbrev pub seen : List SignDirection → List Direction
+seen ds = map seen_one ds
