@@ -105,9 +105,9 @@ name-space n a h =
     let size : length (n ++ 32 ∷ a) ≡ length n + suc (length a) = length-append n (32 ∷ a) in
     let inside : length n < length (n ++ 32 ∷ a) = omega (arith, size) in
     let first : position_or_len (λ byte. byte == 32) (n ++ 32 ∷ a) ≡ length n =
-        (position_or_len_is (λ byte. byte == 32) (n ++ 32 ∷ a) (length n) 0 (omega (arith, size))
-        (λ k l. let e : get_or (n ++ 32 ∷ a) k 0 ≡ get_or n k 0 = get_or-append n (32 ∷ a) 0 k l in rw e (not_space n h k l))
-        (λ l. let e : get_or (n ++ 32 ∷ a) (length n) 0 ≡ 32 = get_or-append_seam n 32 a 0 in rw e refl)) in
+    (position_or_len_is (λ byte. byte == 32) (n ++ 32 ∷ a) (length n) 0 (omega (arith, size))
+    (λ k l. let e : get_or (n ++ 32 ∷ a) k 0 ≡ get_or n k 0 = get_or-append n (32 ∷ a) 0 k l in rw e (not_space n h k l))
+    (λ l. let e : get_or (n ++ 32 ∷ a) (length n) 0 ≡ 32 = get_or-append_seam n 32 a 0 in rw e refl)) in
     position_found (λ byte. byte == 32) (n ++ 32 ∷ a) (length n) first inside
 
 -- the irrep's line, as it is read

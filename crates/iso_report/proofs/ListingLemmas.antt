@@ -93,6 +93,7 @@ zero_reduced = record {
     unit zero zero l m = refl
     unit zero (suc k) l m = absurd (omega arith)
     unit (suc i) k l m = absurd (omega arith)
+
     behind : (i j : ℕ) → i < 1 → slice_index (0 ∷ []) i < j → entry (row_at ((pos 1 ∷ []) ∷ []) i) j ≡ pos 0
     behind zero zero l m = absurd (omega arith)
     behind zero (suc j) l m = refl
@@ -139,12 +140,16 @@ module _ (ops : List Op) (values : List Sign) (size : length values ≡ length o
   -- the whole line, fixed by the operations of the value 1
   line_direction : (hs : List ℕ) → IsKernel values hs → IsDirection (action_of ops values) (direction_of 1 hs)
   line_direction hs m = record {
-    isotropy = (pos 1 ∷ [], refl, record {
-      rising = m.rising;
-      below = λ q c. let l : q < length values = m.below q c in omega (arith, size);
-      fixes = λ q c. fixes ops values q (m.holds q c) (pos 1 ∷ []);
-      whole = λ q l f. m.whole q (omega (arith, size)) (fixes_one ops values q f);
-    });
+    isotropy = (
+      pos 1 ∷ [],
+      refl,
+      record {
+        rising = m.rising;
+        below = λ q c. let l : q < length values = m.below q c in omega (arith, size);
+        fixes = λ q c. fixes ops values q (m.holds q c) (pos 1 ∷ []);
+        whole = λ q l f. m.whole q (omega (arith, size)) (fixes_one ops values q f);
+      },
+    );
     equations = record {
       wide = λ k d l. absurd (omega arith);
       reduced = ([], none_reduced, λ k d l. absurd (omega arith));
@@ -156,12 +161,16 @@ module _ (ops : List Op) (values : List Sign) (size : length values ≡ length o
   -- the zero vector alone, fixed by all operations, where one of them has the value -1
   zero_direction : (hs : List ℕ) (m : ℕ) → IsAll (length values) hs → m < length values → slice_index_or values m Plus ≡ Minus → IsDirection (action_of ops values) (direction_of 0 hs)
   zero_direction hs m all n e = record {
-    isotropy = (pos 0 ∷ [], refl, record {
-      rising = all.rising;
-      below = λ q c. let l : q < length values = all.below q c in omega (arith, size);
-      fixes = λ q c. fixes_zero ops values q;
-      whole = λ q l f. all.whole q (omega (arith, size)) tt;
-    });
+    isotropy = (
+      pos 0 ∷ [],
+      refl,
+      record {
+        rising = all.rising;
+        below = λ q c. let l : q < length values = all.below q c in omega (arith, size);
+        fixes = λ q c. fixes_zero ops values q;
+        whole = λ q l f. all.whole q (omega (arith, size)) tt;
+      },
+    );
     equations = record {
       wide = all_one (λ row. length row ≡ 1) (pos 1 ∷ []) refl;
       reduced = (0 ∷ [], zero_reduced, all_one (λ p. p < 1) 0 (omega arith));
@@ -171,12 +180,13 @@ module _ (ops : List Op) (values : List Sign) (size : length values ≡ length o
   }
     where
       exact : (v : List ℤ) → (x : ℤ) × (v ≡ x ∷ []) → AllVanish ((pos 1 ∷ []) ∷ []) v ↔ IsInFixedSpace (action_of ops values) hs v
-      exact v (x, k) =
-          (λ h q c. let nought : x ≡ pos 0 = sym (dot_one x) ∙ ap (dot (pos 1 ∷ [])) (sym k) ∙ h 0 (omega arith) in
-              let P : List ℤ → Type 0 = IsFixedBy (action_of ops values) q in subst P (sym (k ∙ ap (λ y. y ∷ []) nought)) (fixes_zero ops values q),
-          λ f. let P : List ℤ → Type 0 = IsFixedBy (action_of ops values) m in
-              let nought : x ≡ pos 0 = fixes_only ops values m x e (subst P k (f m (all.whole m n tt))) in
-              λ i l. all_one (λ row. dot row v ≡ pos 0) (pos 1 ∷ []) (ap (dot (pos 1 ∷ [])) k ∙ dot_one x ∙ nought) i [] l)
+      exact v (x, k) = (
+        λ h q c. let nought : x ≡ pos 0 = sym (dot_one x) ∙ ap (dot (pos 1 ∷ [])) (sym k) ∙ h 0 (omega arith) in
+            let P : List ℤ → Type 0 = IsFixedBy (action_of ops values) q in subst P (sym (k ∙ ap (λ y. y ∷ []) nought)) (fixes_zero ops values q),
+        λ f. let P : List ℤ → Type 0 = IsFixedBy (action_of ops values) m in
+            let nought : x ≡ pos 0 = fixes_only ops values m x e (subst P k (f m (all.whole m n tt))) in
+            λ i l. all_one (λ row. dot row v ≡ pos 0) (pos 1 ∷ []) (ap (dot (pos 1 ∷ [])) k ∙ dot_one x ∙ nought) i [] l,
+      )
 
   -- with no proper conjugates, a class is one subgroup
   of_class : (v : List ℤ) (d : Direction) → ((a : ℕ) → a < length ops → Contains d.stabiliser a ↔ IsFixedBy (action_of ops values) a v) → IsOfClass (action_of ops values) v d
@@ -192,9 +202,9 @@ module _ (ops : List Op) (values : List Sign) (size : length values ≡ length o
       let below_d = di.isotropy.2.below in
       let below_e = ei.isotropy.2.below in
       let members : (a : ℕ) → a < length ops → Contains e.stabiliser a ↔ Contains d.stabiliser a =
-          λ a m. let P : ℕ → Type 0 = λ b. Contains e.stabiliser b ↔ Contains d.stabiliser a in subst P (same q a l m) (h a m) in
+      λ a m. let P : ℕ → Type 0 = λ b. Contains e.stabiliser b ↔ Contains d.stabiliser a in subst P (same q a l m) (h a m) in
       let stabiliser : d.stabiliser ≡ e.stabiliser =
-          rising-one d.stabiliser e.stabiliser di.isotropy.2.rising ei.isotropy.2.rising (λ a c. (members a (below_d a c)).1 c) (λ a c. (members a (below_e a c)).0 c) in
+      rising-one d.stabiliser e.stabiliser di.isotropy.2.rising ei.isotropy.2.rising (λ a c. (members a (below_d a c)).1 c) (λ a c. (members a (below_e a c)).0 c) in
       let P : List ℕ → Type 0 = AreEquations (action_of ops values) d.equations in
       let equations : d.equations ≡ e.equations = equations-one d.equations e.equations e.stabiliser (subst P stabiliser di.equations) ei.equations in
       λ i. record { equations = equations i; stabiliser = stabiliser i }
@@ -207,6 +217,7 @@ module _ (ops : List Op) (values : List Sign) (size : length values ≡ length o
         where
           one_zero : pos 1 ≡ pos 0 → ⊥
           one_zero h = cc
+
       equations-one : (rows others : List (List ℤ)) (hs : List ℕ) → AreEquations (action_of ops values) rows hs → AreEquations (action_of ops values) others hs → rows ≡ others
       equations-one rows others hs a b =
           by (rows_or rows a.reduced.0 a.wide a.reduced.1 a.reduced.2) (rows_or others b.reduced.0 b.wide b.reduced.1 b.reduced.2)
@@ -225,6 +236,7 @@ module _ (ops : List Op) (values : List Sign) (size : length values ≡ length o
     where
       equal_greater : Equal ≡ Greater → ⊥
       equal_greater h = cc
+
       ties : (dim : ℕ) → direction_cmp (action_of ops values) (direction_of dim hs) (direction_of dim hs) ≡ Greater → ⊥
       ties zero g = equal_greater (sym (ap (λ o. ordering_then o Equal) (nat_cmp-same (length hs))) ∙ g)
       ties (suc n) g = equal_greater (sym (ap (λ o. ordering_then o Equal) (nat_cmp-same (length hs))) ∙ g)
@@ -246,12 +258,15 @@ module _ (ops : List Op) (values : List Sign) (size : length values ≡ length o
     where
       none_some : (d : Direction) → None ≡ Some d → ⊥
       none_some d h = cc
+
       only : (v : List ℤ) (k : ℕ) (d : Direction) → slice_get (direction_of 1 ker ∷ []) k ≡ Some d → IsOfClass (action_of ops values) v d → k ≡ 0
       only v zero d g h = refl
       only v (suc k) d g h = absurd (none_some d g)
+
       only_in : (d : Direction) → Contains (direction_of 1 ker ∷ []) d → direction_of 1 ker ≡ d
       only_in d (zero, l, e) = e
       only_in d (suc k, l, e) = absurd (omega arith)
+
       least_in : (d e : Direction) → direction_of 1 ker ≡ d → IsDirection (action_of ops values) e → AreConjugate (action_of ops values) d.stabiliser e.stabiliser → direction_cmp (action_of ops values) d e ≢ Greater
       least_in d e k =
           let P : Direction → Type 0 = λ d. IsDirection (action_of ops values) e → AreConjugate (action_of ops values) d.stabiliser e.stabiliser → direction_cmp (action_of ops values) d e ≢ Greater in
@@ -269,20 +284,26 @@ module _ (ops : List Op) (values : List Sign) (size : length values ≡ length o
     where
       zero_is : IsDirection (action_of ops values) (direction_of 0 all)
       zero_is = zero_direction all m a n e
+
       line_is : IsDirection (action_of ops values) (direction_of 1 ker)
       line_is = line_direction ker k
+
       both : (P : Direction → Type 0) → P (direction_of 0 all) → P (direction_of 1 ker) → All P (direction_of 0 all ∷ direction_of 1 ker ∷ [])
       both P h g zero d l = h
       both P h g (suc zero) d l = g
       both P h g (suc (suc i)) d l = absurd (omega arith)
+
       none_some : (d : Direction) → None ≡ Some d → ⊥
       none_some d h = cc
+
       some_same : (d f : Direction) → Some d ≡ Some f → d ≡ f
       some_same d f h = cc
+
       either : (d : Direction) → Contains (direction_of 0 all ∷ direction_of 1 ker ∷ []) d → (direction_of 0 all ≡ d) ⊎ (direction_of 1 ker ≡ d)
       either d (zero, l, h) = inl h
       either d (suc zero, l, h) = inr h
       either d (suc (suc i), l, h) = absurd (omega arith)
+
       least_in : (d f : Direction) → (direction_of 0 all ≡ d) ⊎ (direction_of 1 ker ≡ d) → IsDirection (action_of ops values) f → AreConjugate (action_of ops values) d.stabiliser f.stabiliser
           → direction_cmp (action_of ops values) d f ≢ Greater
       least_in d f (inl h) =
@@ -291,27 +312,33 @@ module _ (ops : List Op) (values : List Sign) (size : length values ≡ length o
       least_in d f (inr h) =
           let P : Direction → Type 0 = λ d. IsDirection (action_of ops values) f → AreConjugate (action_of ops values) d.stabiliser f.stabiliser → direction_cmp (action_of ops values) d f ≢ Greater in
           subst P h (least 1 ker f line_is)
+
       sorted : IsSorted (direction_cmp (action_of ops values)) (direction_of 0 all ∷ direction_of 1 ker ∷ [])
       sorted zero d l h = refl
       sorted (suc i) d l h = absurd (omega arith)
+
       -- the line isn't of the class of the zero vector
       not_line : (v : List ℤ) → v ≡ pos 0 ∷ [] → IsOfClass (action_of ops values) v (direction_of 1 ker) → ⊥
       not_line v g h =
           let P : List ℤ → Type 0 = IsFixedBy (action_of ops values) m in
           apart _ e (k.holds m ((class_of v (direction_of 1 ker) h m (omega (arith, size))).1 (subst P (sym g) (fixes_zero ops values m))))
+
       -- the zero vector alone isn't of the class of another
       not_zero : (v : List ℤ) (x : ℤ) → v ≡ x ∷ [] → (x ≡ pos 0 → ⊥) → IsOfClass (action_of ops values) v (direction_of 0 all) → ⊥
       not_zero v x g nonzero h =
           let P : List ℤ → Type 0 = IsFixedBy (action_of ops values) m in
           nonzero (fixes_only ops values m x e (subst P g ((class_of v (direction_of 0 all) h m (omega (arith, size))).0 (a.whole m n tt))))
+
       only_zero : (v : List ℤ) → v ≡ pos 0 ∷ [] → (i : ℕ) (d : Direction) → slice_get (direction_of 0 all ∷ direction_of 1 ker ∷ []) i ≡ Some d → IsOfClass (action_of ops values) v d → i ≡ 0
       only_zero v g zero d s h = refl
       only_zero v g (suc zero) d s h = let P : Direction → Type 0 = IsOfClass (action_of ops values) v in absurd (not_line v g (subst P (sym (some_same (direction_of 1 ker) d s)) h))
       only_zero v g (suc (suc i)) d s h = absurd (none_some d s)
+
       only_line : (v : List ℤ) (x : ℤ) → v ≡ x ∷ [] → (x ≡ pos 0 → ⊥) → (i : ℕ) (d : Direction) → slice_get (direction_of 0 all ∷ direction_of 1 ker ∷ []) i ≡ Some d → IsOfClass (action_of ops values) v d → i ≡ 1
       only_line v x g nonzero zero d s h = let P : Direction → Type 0 = IsOfClass (action_of ops values) v in absurd (not_zero v x g nonzero (subst P (sym (some_same (direction_of 0 all) d s)) h))
       only_line v x g nonzero (suc zero) d s h = refl
       only_line v x g nonzero (suc (suc i)) d s h = absurd (none_some d s)
+
       -- an operation that fixes another vector than zero has the value 1
       plus_of : (v : List ℤ) (x : ℤ) → v ≡ x ∷ [] → (x ≡ pos 0 → ⊥) → (q : ℕ) → IsFixedBy (action_of ops values) q v → slice_index_or values q Plus ≡ Plus
       plus_of v x g nonzero q f = by (slice_index_or values q Plus) refl
@@ -319,6 +346,7 @@ module _ (ops : List Op) (values : List Sign) (size : length values ≡ length o
           by : (s : Sign) → slice_index_or values q Plus ≡ s → slice_index_or values q Plus ≡ Plus
           by Plus h = h
           by Minus h = let P : List ℤ → Type 0 = IsFixedBy (action_of ops values) q in absurd (nonzero (fixes_only ops values q x h (subst P g f)))
+
       one : (v : List ℤ) → (x : ℤ) × (v ≡ x ∷ []) → HasOneOfClass (action_of ops values) v (direction_of 0 all ∷ direction_of 1 ker ∷ [])
       one v (x, g) = by (nonzero_or x)
         where

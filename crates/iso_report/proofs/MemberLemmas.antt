@@ -31,11 +31,11 @@ rising_push n hs rising below k l =
     pushed j k e l =
         let left : get_or (hs ++ n ∷ []) k 0 ≡ get_or hs k 0 = get_or-append hs (n ∷ []) 0 k (omega arith) in
         rw left (below_more (λ j. (k : ℕ) → j ≡ k + 1 → get_or hs k 0 < get_or (hs ++ n ∷ []) j 0) (length hs)
-            (λ j l k e. let right : get_or (hs ++ n ∷ []) j 0 ≡ get_or hs j 0 = get_or-append hs (n ∷ []) 0 j l in
-                rw right (let next : get_or hs k 0 < get_or hs (k + 1) 0 = rising k (omega arith) in rw e next))
-            (λ k e. let last : get_or (hs ++ n ∷ []) (length hs) 0 ≡ n = get_or-append_seam hs n [] 0 in
-                rw last (below (get_or hs k 0) (Contains-get_or hs k 0 (omega arith))))
-            j l k e)
+        (λ j l k e. let right : get_or (hs ++ n ∷ []) j 0 ≡ get_or hs j 0 = get_or-append hs (n ∷ []) 0 j l in
+        rw right (let next : get_or hs k 0 < get_or hs (k + 1) 0 = rising k (omega arith) in rw e next))
+        (λ k e. let last : get_or (hs ++ n ∷ []) (length hs) 0 ≡ n = get_or-append_seam hs n [] 0 in
+        rw last (below (get_or hs k 0) (Contains-get_or hs k 0 (omega arith))))
+        j l k e)
 
 pub members_none : (p : ℕ → Type 0) → HasMembers 0 p []
 members_none p = record {
@@ -93,14 +93,15 @@ rising-one (x ∷ xs) [] rx ry to from = absurd (none_in x (to x (here x xs)))
 rising-one (x ∷ xs) (y ∷ ys) rx ry to from =
     let first : x ≡ y = same_first (first_or y x ys (to x (here x xs))) (first_or x y xs (from y (here y ys))) in
     let others : xs ≡ ys = rising-one xs ys (tail_rising x xs rx) (tail_rising y ys ry)
-        (λ q c. from_tail x y q xs ys rx first c (first_or y q ys (to q (behind x q xs c))))
-        (λ q c. from_tail y x q ys xs ry (sym first) c (first_or x q xs (from q (behind y q ys c)))) in
+    (λ q c. from_tail x y q xs ys rx first c (first_or y q ys (to q (behind x q xs c))))
+    (λ q c. from_tail y x q ys xs ry (sym first) c (first_or x q xs (from q (behind y q ys c)))) in
     cc
   where
     same_first : (y ≡ x) ⊎ Contains ys x → (x ≡ y) ⊎ Contains xs y → x ≡ y
     same_first (inl e) k = sym e
     same_first (inr h) (inl e) = e
     same_first (inr h) (inr k) = let a : y < x = member_above y x ys ry h in let b : x < y = member_above x y xs rx k in absurd (omega arith)
+
     from_tail : (x y q : ℕ) (xs ys : List ℕ) → IsStrictlyIncreasing (x ∷ xs) → x ≡ y → Contains xs q → (y ≡ q) ⊎ Contains ys q → Contains ys q
     from_tail x y q xs ys rx e c (inl h) = let a : x < q = member_above x q xs rx c in absurd (omega arith)
     from_tail x y q xs ys rx e c (inr h) = h

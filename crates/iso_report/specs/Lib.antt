@@ -7,3 +7,4 @@ pub mod SignFile
 pub mod Report
 pub mod Outcome
 pub mod Endings
+pub mod Found

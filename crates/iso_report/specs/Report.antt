@@ -35,11 +35,14 @@ abbrev pub direction_text : List Op → Action → ℕ × Direction → List ℕ
 direction_text ops act d =
     line (direction_line act d.0 d.1) (line (codes "form " ++ form_text d.1) (line (codes "kept 0 0 0") (flat_map (op_line ops) d.1.stabiliser)))
 
+-- the first lines of a report: the irrep with its dimension, the order of the group, how many directions
+abbrev pub head_lines : List ℕ → ℕ → ℕ → ℕ → List ℕ → List ℕ
+head_lines name dim order total rest =
+    line (codes "isodist 1 list") (line (codes "irrep " ++ name ++ codes " dim " ++ decimal dim ++ codes " order " ++ decimal order) (line (codes "total " ++ decimal total) rest))
+
 -- the report of `list`
 abbrev pub listing_text : List ℕ → List Op → Action → List Direction → List ℕ
-listing_text name ops act ds =
-    line (codes "isodist 1 list") (line (codes "irrep " ++ name ++ codes " dim " ++ decimal act.dim ++ codes " order " ++ decimal act.group.order)
-    (line (codes "total " ++ decimal (length ds)) (flat_map (direction_text ops act) (page 0 None ds))))
+listing_text name ops act ds = head_lines name act.dim act.group.order (length ds) (flat_map (direction_text ops act) (page 0 None ds))
 
 -- the text of a refusal
 abbrev pub refusal_text : Refusal → List ℕ

@@ -6,10 +6,14 @@
 
 mod direction;
 mod directions;
+mod found;
 mod job;
+mod outcome;
 mod refusal;
+mod report;
 mod sign_file;
 mod sign_rep;
 
 pub use job::Job;
+pub use outcome::run;
 pub use refusal::{Refusal, RunError, refusal_line};

@@ -256,7 +256,11 @@ pub fn read(alloc: Global, bytes: &[u8]) -> Result<Option<SignFile>, NoMemory>
 
 // The values of the operations of a symbol, where their lines and the last one are all there is and
 // the first value is 1.
-fn read_all_values(alloc: Global, symbol: Symbol, bytes: &[u8]) -> Result<Option<ArrayVec<Sign, 4>>, NoMemory>
+fn read_all_values(
+    alloc: Global,
+    symbol: Symbol,
+    bytes: &[u8],
+) -> Result<Option<ArrayVec<Sign, 4>>, NoMemory>
     ensures { IfOk result (λ read. MatchOption read ((values : List Sign) → AreValues symbol values bytes.now → ⊥) (λ values. AreValues symbol values.items bytes.now)) }
 {
     let operations = symbol.operations();

@@ -10,7 +10,11 @@ impl Sign {
     pub fn times(self, other: Sign) -> Sign
         ensures { number_of_sign result ≡ number_of_sign self *ℤ number_of_sign other }
     {
-        if self == other { Sign::Plus } else { Sign::Minus }
+        if self == other {
+            Sign::Plus
+        } else {
+            Sign::Minus
+        }
     }
 
     // Whether two signs are one.
@@ -42,7 +46,7 @@ fn number_of(operations: &[Op], op: Op) -> usize
 }
 
 // Operation number q.
-fn operation(operations: &[Op], q: usize) -> Op
+pub fn operation(operations: &[Op], q: usize) -> Op
     requires { q < length operations.now }
     ensures { result ≡ operation operations.now q }
 {

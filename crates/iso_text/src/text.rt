@@ -1,7 +1,8 @@
 // Text that contracts see as a list of bytes.
-ghost use Rattle.std.specs.Prelude.{◌≡◌, ◌++◌, [], ◌∷◌, OnOk, OnErr, string_bytes};
+ghost use Rattle.std.specs.Prelude.{◌≡◌, ◌++◌, [], ◌∷◌, OnOk, OnErr, decimal, string_bytes};
 
 use crate::NoMemory;
+use itoa::Buffer;
 use std::alloc::Global;
 use std::marker::Model;
 
@@ -61,5 +62,14 @@ impl Text {
             Ok(()) => Ok(()),
             Err(_) => Err(NoMemory),
         }
+    }
+
+    /// Adds a number in decimal digits. Want of memory leaves the text as it was.
+    pub fn push_number(&mut self, n: u64) -> Result<(), NoMemory>
+        ensures ok { OnOk result (self.new ≡ self.old ++ decimal n) }
+        ensures err { OnErr result (self.new ≡ self.old) }
+    {
+        let mut buffer = Buffer::new();
+        self.push(buffer.format(n).as_bytes())
     }
 }

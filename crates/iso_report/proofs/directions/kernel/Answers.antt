@@ -11,8 +11,8 @@ loop-q-preserved c =
     let p : ℕ → Type 0 = λ q. slice_index_or c.args.values.now q Plus ≡ Plus in
     let P : List ℕ → Type 0 = HasMembers (c.loop-q.q + 1) p in
     elim c.if-is_plus.branch [
-      then-is_plus+in_ok-push w ↦ subst P (sym (ap (λ v. v.items) w.numbers-is ∙ w.in_ok-push.ensures)) (members_push c.loop-q.q p c.loop-q.numbers.items c.loop-q.invariant (w.if-is_plus.ensures.plus refl))
-    | else-is_plus w ↦ subst P (sym (ap (λ v. v.items) w.numbers-is)) (members_skip c.loop-q.q p c.loop-q.numbers.items c.loop-q.invariant (apart _ (w.if-is_plus.ensures.minus refl)))
+      | then-is_plus+in_ok-push w ↦ subst P (sym (ap (λ v. v.items) w.numbers-is ∙ w.in_ok-push.ensures)) (members_push c.loop-q.q p c.loop-q.numbers.items c.loop-q.invariant (w.if-is_plus.ensures.plus refl))
+      | else-is_plus w ↦ subst P (sym (ap (λ v. v.items) w.numbers-is)) (members_skip c.loop-q.q p c.loop-q.numbers.items c.loop-q.invariant (apart _ (w.if-is_plus.ensures.minus refl)))
     ]
 
 pub returns : goal.returns

@@ -12,6 +12,6 @@ pub loop-op-preserved : goal.loop-op-preserved
 loop-op-preserved c = record {
   each = omega (arith, c.push.ensures.len);
   text = c.loop-op.invariant.text ∙ mats_more c.args.operations.now c.loop-op.values.items c.loop-op.op-index _ c.in-Some.sign c.loop-op.rest.now c.in-Some.behind.now c.loop-op.invariant.each (omega arith)
-    (c.in-Some.ensures ∙ ap (λ t. line (t ++ sign_text c.in-Some.sign) c.in-Some.behind.now) (c.as_slice.ensures ∙ c.in_ok-front.ensures)) 
-    ∙ ap (λ values. mats_text (take (c.loop-op.op-index + 1) c.args.operations.now) values c.in-Some.behind.now) (sym c.push.ensures.items);
+      (c.in-Some.ensures ∙ ap (λ t. line (t ++ sign_text c.in-Some.sign) c.in-Some.behind.now) (c.as_slice.ensures ∙ c.in_ok-front.ensures))
+      ∙ ap (λ values. mats_text (take (c.loop-op.op-index + 1) c.args.operations.now) values c.in-Some.behind.now) (sym c.push.ensures.items);
 }
