@@ -1,0 +1,16 @@
+use Rattle.std.proofs.Common.{◌∙◌}
+use Rattle.iso_cli.proofs.Lines.{says_same, refused_answer}
+use Rattle.iso_cli.proofs.top.answer.Goals as goal
+
+pub returns-in-Err-Refused-clause-answers : goal.returns-in-Err-Refused-clause-answers
+returns-in-Err-Refused-clause-answers g c =
+    let fails = rw c.in-Err-Refused.field-0-is at c.in-Err-Refused.ensures.answer in
+    refused_answer c.refuse.result c.args.bytes.now c.in-Err-Refused.refusal _ _ c.requires fails.0 fails.1 c.refuse.ensures
+
+pub returns-in-Err-WriteFault-clause-answers : goal.returns-in-Err-WriteFault-clause-answers
+returns-in-Err-WriteFault-clause-answers g c =
+    (rw c.in-Err-WriteFault.field-0-is at c.in-Err-WriteFault.ensures.answer, says_same _ _ _ c.as_bytes.ensures.value c.say.ensures)
+
+pub returns-in-Err-NoMemory-clause-answers : goal.returns-in-Err-NoMemory-clause-answers
+returns-in-Err-NoMemory-clause-answers g c =
+    (rw c.in-Err-NoMemory.field-0-is at c.in-Err-NoMemory.ensures.answer, says_same _ _ _ c.as_bytes-in-Err-NoMemory.ensures.value c.say-in-Err-NoMemory.ensures)

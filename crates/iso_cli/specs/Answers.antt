@@ -1,0 +1,68 @@
+-- What a call of the program leaves on its streams, by its status.
+--
+-- Says line err: err has grown by the line
+-- Answers job bytes status out err: the answer to a job over all the bytes that were left
+-- AnswersNoJob status out err: the answer where the words name no job
+-- IsSafe status out: what holds of out whatever the source tells
+use Rattle.std.specs.Prelude.{◌⊎◌, ℕ, ◌<◌, ◌≤◌, List, [], length, codes}
+use Rattle.iso_report.specs.declared.job.Job.{Job}
+use Rattle.iso_report.specs.declared.refusal.Refusal.{Refusal}
+use Rattle.iso_report.specs.declared.refusal.Refusal.TheVariants as refusal
+use Rattle.iso_report.specs.Endings.{Change, Grew, GrewByPrefix, HasFailed, RunIsDone, IsCutShort, IsBrokenOff}
+use Rattle.iso_report.specs.Outcome.{IsOutcome, report, refused}
+use Rattle.iso_report.specs.Report.{line_of}
+use Rattle.iso_report.specs.SignFile.{line}
+use Rattle.iso_cli.specs.declared.status.Status.{Status}
+use Rattle.iso_cli.specs.declared.status.Status.TheVariants as status
+
+-- the most bytes of a file
+abbrev pub max_bytes : ℕ
+max_bytes = 1048576
+
+abbrev pub too_long_line : List ℕ
+too_long_line = line (codes "isodist: refused: file is longer than 1048576 bytes") []
+
+abbrev pub read_line : List ℕ
+read_line = line (codes "isodist: read failed") []
+
+abbrev pub write_line : List ℕ
+write_line = line (codes "isodist: write failed") []
+
+abbrev pub memory_line : List ℕ
+memory_line = line (codes "isodist: out of memory") []
+
+-- err has grown by the line, or by a prefix of it where a write on it failed
+abbrev pub Says : List ℕ → Change → Type 0
+Says text err = Grew text err ⊎ (GrewByPrefix text err × HasFailed err)
+
+-- the line of a refusal, or want of memory for it
+abbrev pub SaysRefusal : Refusal → Status → Change → Type 0
+SaysRefusal r status.Refused err = Says (line_of r) err
+SaysRefusal r status.NoMemory err = Says memory_line err
+SaysRefusal r _ err = ⊥
+
+-- a refusal: too many bytes were left, or the definitions refuse these
+abbrev pub IsRefused : Job → List ℕ → Change → Type 0
+IsRefused job bytes err = ((max_bytes < length bytes) × Says too_long_line err) ⊎ ((r : Refusal) × (length bytes ≤ max_bytes) × IsOutcome job bytes (refused r) × Says (line_of r) err)
+
+-- the answer to a job, by its status, over all the bytes that were left
+abbrev pub Answers : Job → List ℕ → Status → Change → Change → Type 0
+Answers job bytes status.Done out err = RunIsDone job bytes out × Grew [] err
+Answers job bytes status.Refused out err = Grew [] out × IsRefused job bytes err
+Answers job bytes status.Usage out err = ⊥
+Answers job bytes status.ReadFault out err = Grew [] out × Says read_line err
+Answers job bytes status.WriteFault out err = IsBrokenOff job bytes out × Says write_line err
+Answers job bytes status.NoMemory out err = IsCutShort job bytes out × Says memory_line err
+
+-- the answer where the words name no job: not built, and nothing on out
+abbrev pub AnswersNoJob : Status → Change → Change → Type 0
+AnswersNoJob status out err = Grew [] out × SaysRefusal refusal.NotBuilt status err
+
+-- what out has, and what its faults say, whatever the source tells
+abbrev pub IsSafe : Status → Change → Type 0
+IsSafe status.Done out = Unit {0}
+IsSafe status.Refused out = Grew [] out
+IsSafe status.Usage out = ⊥
+IsSafe status.ReadFault out = Grew [] out
+IsSafe status.WriteFault out = HasFailed out
+IsSafe status.NoMemory out = Unit {0}

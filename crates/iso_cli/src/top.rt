@@ -1,0 +1,150 @@
+// The top call.
+ghost use Rattle.std.specs.Prelude.{◌≡◌, ◌≢◌, ◌+◌, ◌<◌, ◌≤◌, ◌⊎◌, [], Some, IfSome, IsNone, List, ℕ, length};
+ghost use Rattle.iso_text.specs.Counts.{HasRisen, raised};
+ghost use Rattle.iso_text.specs.Streams.{IsRestOf};
+ghost use Rattle.iso_report.specs.Endings.{change};
+ghost use Rattle.iso_report.specs.Report.{line_of};
+ghost use Rattle.iso_cli.specs.Answers.{Answers, AnswersNoJob, IsSafe, Says, SaysRefusal};
+ghost use Rattle.iso_cli.specs.Words.{job_of, texts_of};
+
+use crate::Status;
+use iso_report::{Job, Refusal, RunError, refusal_line, run};
+use iso_text::{MAX_BYTES, Sink, Source, TakeError, put_all, take_all};
+use std::alloc::Global;
+
+const READ_FAILED: &str = "isodist: read failed\n";
+
+const WRITE_FAILED: &str = "isodist: write failed\n";
+
+const OUT_OF_MEMORY: &str = "isodist: out of memory\n";
+
+const TOO_LONG: &str = "isodist: refused: file is longer than 1048576 bytes\n";
+
+// The job that the words name.
+fn job(words: &[&str]) -> Option<Job>
+    ensures { result ≡ job_of (texts_of words.now) }
+{
+    match words {
+        [word] if *word == "list" => Some(Job::List),
+        _ => None,
+    }
+}
+
+// Writes a line on err. A fault there changes no answer.
+fn say<E: Sink>(err: &mut E, line: &[u8])
+    ensures { Says line.now (change (E.written err.old) (E.written err.new) (E.faults err.old) (E.faults err.new)) }
+{
+    let _ = put_all(err, line);
+}
+
+// Writes the line of a refusal on err.
+fn refuse<E: Sink>(alloc: Global, refusal: &Refusal, err: &mut E) -> Status
+    ensures { SaysRefusal refusal.now result (change (E.written err.old) (E.written err.new) (E.faults err.old) (E.faults err.new)) }
+{
+    match refusal_line(alloc, refusal) {
+        Ok(line) => {
+            say(err, line.as_slice());
+            Status::Refused
+        }
+        Err(_) => {
+            say(err, OUT_OF_MEMORY.as_bytes());
+            Status::NoMemory
+        }
+    }
+}
+
+// Answers `list` over a file's bytes.
+fn answer<O: Sink, E: Sink>(alloc: Global, bytes: &[u8], out: &mut O, err: &mut E) -> Status
+    requires { length bytes.now ≤ MAX_BYTES }
+    ensures answers { Answers Job.List bytes.now result
+        (change (O.written out.old) (O.written out.new) (O.faults out.old) (O.faults out.new))
+        (change (E.written err.old) (E.written err.new) (E.faults err.old) (E.faults err.new)) }
+    ensures safe { IsSafe result (change (O.written out.old) (O.written out.new) (O.faults out.old) (O.faults out.new)) }
+    ensures no_fault { result ≢ Status.ReadFault }
+    ensures refused { result ≡ Status.Refused → (r : Refusal) × Says (line_of r) (change (E.written err.old) (E.written err.new) (E.faults err.old) (E.faults err.new)) }
+{
+    match run(alloc, bytes, out) {
+        Ok(()) => Status::Done,
+        Err(RunError::Refused(refusal)) => refuse(alloc, &refusal, err),
+        Err(RunError::WriteFault) => {
+            say(err, WRITE_FAILED.as_bytes());
+            Status::WriteFault
+        }
+        Err(RunError::NoMemory) => {
+            say(err, OUT_OF_MEMORY.as_bytes());
+            Status::NoMemory
+        }
+    }
+}
+
+// Answers `list` over what is left of the source.
+fn answer_source<S: Source, O: Sink, E: Sink>(
+    alloc: Global,
+    source: &mut S,
+    out: &mut O,
+    err: &mut E,
+) -> Status
+    ensures answers { IfSome (S.left source.old) (λ bytes. Answers Job.List bytes result
+        (change (O.written out.old) (O.written out.new) (O.faults out.old) (O.faults out.new))
+        (change (E.written err.old) (E.written err.new) (E.faults err.old) (E.faults err.new))) }
+    ensures safe { IsSafe result (change (O.written out.old) (O.written out.new) (O.faults out.old) (O.faults out.new)) }
+    ensures read_fault { result ≡ Status.ReadFault → HasRisen (S.faults source.old) (S.faults source.new) }
+    ensures drained { result ≡ Status.Done → IfSome (S.left source.old) (λ _. S.left source.new ≡ Some []) }
+    ensures refused { result ≡ Status.Refused → IfSome (S.left source.old) (λ bytes. (MAX_BYTES < length bytes) ⊎ (S.left source.new ≡ Some [])) }
+    ensures too_long { result ≡ Status.Refused → (S.taken source.new ≡ raised (MAX_BYTES + 1) (S.taken source.old)) ⊎ ((r : Refusal) × Says (line_of r) (change (E.written err.old) (E.written err.new) (E.faults err.old) (E.faults err.new))) }
+    ensures taken { S.taken source.new ≤ S.taken source.old + (MAX_BYTES + 1) }
+    ensures rest { IsRestOf (S.left source.old) (S.left source.new) }
+{
+    match take_all(alloc, source) {
+        Ok(bytes) => answer(alloc, &bytes, out, err),
+        Err(TakeError::ReadFault) => {
+            say(err, READ_FAILED.as_bytes());
+            Status::ReadFault
+        }
+        Err(TakeError::TooLong) => {
+            say(err, TOO_LONG.as_bytes());
+            Status::Refused
+        }
+        Err(TakeError::NoMemory) => {
+            say(err, OUT_OF_MEMORY.as_bytes());
+            Status::NoMemory
+        }
+    }
+}
+
+/// Answers the words over the source: the report of the definitions on out, or one line on err.
+/// `words` are without the program's name.
+///
+/// Where a read or a write failed, the status may say so; a fault on err changes no status.
+pub fn isodist<'a, S: Source, O: Sink, E: Sink>(
+    alloc: Global,
+    words: &'a [&'a str],
+    source: &mut S,
+    out: &mut O,
+    err: &mut E,
+) -> Status
+    // Words that name no job are refused, and the source is left unread.
+    ensures no_job { IsNone (job_of (texts_of words.now)) → AnswersNoJob result
+        (change (O.written out.old) (O.written out.new) (O.faults out.old) (O.faults out.new))
+        (change (E.written err.old) (E.written err.new) (E.faults err.old) (E.faults err.new)) }
+    ensures unread { IsNone (job_of (texts_of words.now)) → source.new ≡ source.old }
+
+    // A job is answered as the definitions say of all the bytes that were left.
+    ensures job { IfSome (job_of (texts_of words.now)) (λ job. IfSome (S.left source.old) (λ bytes. Answers job bytes result
+        (change (O.written out.old) (O.written out.new) (O.faults out.old) (O.faults out.new))
+        (change (E.written err.old) (E.written err.new) (E.faults err.old) (E.faults err.new)))) }
+
+    // Over every source.
+    ensures safe { IsSafe result (change (O.written out.old) (O.written out.new) (O.faults out.old) (O.faults out.new)) }
+    ensures read_fault { result ≡ Status.ReadFault → HasRisen (S.faults source.old) (S.faults source.new) }
+    ensures drained { result ≡ Status.Done → IfSome (S.left source.old) (λ _. S.left source.new ≡ Some []) }
+    ensures refused { result ≡ Status.Refused → IfSome (job_of (texts_of words.now)) (λ _. IfSome (S.left source.old) (λ bytes. (MAX_BYTES < length bytes) ⊎ (S.left source.new ≡ Some []))) }
+    ensures too_long { result ≡ Status.Refused → (S.taken source.new ≡ raised (MAX_BYTES + 1) (S.taken source.old)) ⊎ ((r : Refusal) × Says (line_of r) (change (E.written err.old) (E.written err.new) (E.faults err.old) (E.faults err.new))) }
+    ensures taken { S.taken source.new ≤ S.taken source.old + (MAX_BYTES + 1) }
+    ensures rest { IsRestOf (S.left source.old) (S.left source.new) }
+{
+    match job(words) {
+        Some(Job::List) => answer_source(alloc, source, out, err),
+        None => refuse(alloc, &Refusal::NotBuilt, err),
+    }
+}
