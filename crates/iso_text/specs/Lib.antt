@@ -1,3 +1,9 @@
+pub mod Cuts
+pub mod Digits
+pub mod Fractions
+pub mod Mark
 pub mod Name
 pub mod NameView
 pub mod NumberedGroup
+pub mod Numbers
+pub mod Operations

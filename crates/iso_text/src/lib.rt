@@ -4,12 +4,20 @@
 //! Conventions: a text is a list of bytes; a translation is in twelfths of a cell edge.
 #![tactic(auto)]
 
+mod cuts;
+mod digits;
 mod errors;
+mod fractions;
 mod name;
+mod number_lists;
+mod number_words;
 mod numbers;
+mod operation_words;
 mod text;
 
 pub use errors::{Failed, NoMemory, TakeError, WriteFault};
+pub use fractions::UNITS_PER_EDGE;
 pub use name::Name;
-pub use numbers::{Frac, Term, Unit};
+pub use number_lists::{NumList, NumText};
+pub use numbers::{Frac, OpText, Term, Unit};
 pub use text::Text;
