@@ -64,3 +64,8 @@ pub cut_at-first : (p : ℕ → Bool) (text : List ℕ) (at : ℕ) → 0 < lengt
 cut_at-first p [] at some fronts backs = absurd (omega arith)
 cut_at-first p (c ∷ cs) at some fronts backs =
     cut_at-cons p c cs ∙ ap (λ t. (c ∷ t) ∷ cut_at p (back p cs)) (sym fronts) ∙ ap (λ t. (c ∷ take at cs) ∷ cut_at p t) (sym backs) ∙ sym (rw add-one refl)
+
+-- and it isn't empty
+pub front_some : (text : List ℕ) → 0 < length text → is_blank (get_or text 0 0) ≡ false → 0 < length (front is_blank text)
+front_some [] some first = absurd (omega arith)
+front_some (c ∷ cs) some first = omega (arith, ap (λ t. length (if t then [] else c ∷ front is_blank cs)) first)

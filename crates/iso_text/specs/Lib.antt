@@ -1,6 +1,8 @@
 pub mod Cuts
 pub mod Digits
 pub mod Fractions
+pub mod LineKinds
+pub mod Lines
 pub mod Mark
 pub mod Name
 pub mod NameView

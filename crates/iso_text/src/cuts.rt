@@ -1,5 +1,5 @@
 // Cutting a text into its parts.
-ghost use Rattle.std.specs.Prelude.{◌≡◌, ◌∷◌, ◌+◌, ◌<◌, ◌≤◌, [], length, take, drop, MatchOption};
+ghost use Rattle.std.specs.Prelude.{◌≡◌, ◌∷◌, ◌+◌, ◌<◌, ◌≤◌, [], length, take, drop, MatchOption, IfSome};
 ghost use Rattle.iso_text.specs.Cuts.{front, back, behind, words_of, cut_at, is_sign};
 ghost use Rattle.iso_text.specs.Mark.{picks};
 
@@ -52,6 +52,7 @@ pub fn split_at_mark(text: &[u8], mark: Mark) -> (&[u8], &[u8])
 pub fn split_round_mark(text: &[u8], mark: Mark) -> (&[u8], &[u8])
     ensures front { result.0.now ≡ front (picks mark) text.now }
     ensures behind { result.1.now ≡ behind (picks mark) text.now }
+    ensures shorter { 0 < length text.now → length result.1.now < length text.now }
 {
     let (front, back) = split_at_mark(text, mark);
     match back {
@@ -62,7 +63,8 @@ pub fn split_round_mark(text: &[u8], mark: Mark) -> (&[u8], &[u8])
 
 /// The first word, and the text behind it.
 pub fn first_word(text: &[u8]) -> Option<(&[u8], &[u8])>
-    ensures { MatchOption result (words_of text.now ≡ []) (λ parts. words_of text.now ≡ parts.0.now ∷ words_of parts.1.now) }
+    ensures word { MatchOption result (words_of text.now ≡ []) (λ parts. words_of text.now ≡ parts.0.now ∷ words_of parts.1.now) }
+    ensures shorter { IfSome result (λ parts. length parts.1.now < length text.now) }
 {
     let mut rest = text;
     while let [first, behind @ ..] = rest {
