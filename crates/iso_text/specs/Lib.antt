@@ -1,5 +1,8 @@
 pub mod Cuts
 pub mod Digits
+pub mod Draft
+pub mod File
+pub mod FileValue
 pub mod Fractions
 pub mod LineKinds
 pub mod Lines

@@ -6,6 +6,8 @@
 
 mod cuts;
 mod digits;
+mod document;
+mod draft;
 mod errors;
 mod fractions;
 mod line_kinds;
@@ -15,13 +17,16 @@ mod number_lists;
 mod number_words;
 mod numbers;
 mod operation_words;
+mod read_error;
 mod sections;
 mod text;
 
+pub use document::Document;
 pub use errors::{Failed, NoMemory, TakeError, WriteFault};
 pub use fractions::UNITS_PER_EDGE;
 pub use name::Name;
 pub use number_lists::{NumList, NumText};
 pub use numbers::{Frac, OpText, Term, Unit};
+pub use read_error::ReadError;
 pub use sections::{AtomList, AtomText, IrrepList, IrrepText, MatList, MatText};
 pub use text::Text;

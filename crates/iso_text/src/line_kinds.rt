@@ -56,7 +56,7 @@ pub enum Line {
     End,
 }
 
-fn is_same(word: &[u8], text: &[u8]) -> bool
+pub fn is_same(word: &[u8], text: &[u8]) -> bool
     ensures { result ≡ bytes_eq word.now text.now }
 {
     word == text

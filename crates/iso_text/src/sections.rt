@@ -1,6 +1,7 @@
 // The sections of a file with their line numbers, and lists of them that own their memory.
-ghost use Rattle.std.specs.Prelude.{◌≡◌};
+ghost use Rattle.std.specs.Prelude.{◌≡◌, ◌++◌, ◌∷◌, [], OnOk, OnErr};
 
+use crate::NoMemory;
 use crate::name::Name;
 use crate::number_lists::NumList;
 use crate::numbers::{Frac, OpText};
@@ -49,6 +50,17 @@ impl MatList {
         ensures { result.now ≡ self.now }
     {
         &self.mats
+    }
+
+    /// Adds one at the end. Want of memory leaves the list as it was.
+    pub fn push(&mut self, mat: MatText) -> Result<(), NoMemory>
+        ensures ok { OnOk result (self.new ≡ self.old ++ mat ∷ []) }
+        ensures err { OnErr result (self.new ≡ self.old) }
+    {
+        match self.mats.push(mat) {
+            Ok(()) => Ok(()),
+            Err(_) => Err(NoMemory),
+        }
     }
 }
 
@@ -99,6 +111,17 @@ impl IrrepList {
     {
         &self.irreps
     }
+
+    /// Adds one at the end. Want of memory leaves the list as it was.
+    pub fn push(&mut self, irrep: IrrepText) -> Result<(), NoMemory>
+        ensures ok { OnOk result (self.new ≡ self.old ++ irrep ∷ []) }
+        ensures err { OnErr result (self.new ≡ self.old) }
+    {
+        match self.irreps.push(irrep) {
+            Ok(()) => Ok(()),
+            Err(_) => Err(NoMemory),
+        }
+    }
 }
 
 /// An `atom` or `listed` line: the label, and the place in units of 1/12,000,000 of a cell edge.
@@ -144,5 +167,16 @@ impl AtomList {
         ensures { result.now ≡ self.now }
     {
         &self.atoms
+    }
+
+    /// Adds one at the end. Want of memory leaves the list as it was.
+    pub fn push(&mut self, atom: AtomText) -> Result<(), NoMemory>
+        ensures ok { OnOk result (self.new ≡ self.old ++ atom ∷ []) }
+        ensures err { OnErr result (self.new ≡ self.old) }
+    {
+        match self.atoms.push(atom) {
+            Ok(()) => Ok(()),
+            Err(_) => Err(NoMemory),
+        }
     }
 }
