@@ -1,9 +1,10 @@
 -- Where a reader of lines stands: what it has read so far, and what a line makes of that.
 --
 -- next_of d line: the draft with the line, or None where the line can't stand there
-use Rattle.std.specs.Prelude.{ℕ, ℤ, ◌==◌, ◌&&◌, nat_lt, List, [], ◌∷◌, ◌++◌, length, Bool, if◌then◌else◌, Option, Some, None, is_none, is_some, option_and_then}
+use Rattle.std.specs.Prelude.{◌≡◌, ℕ, ℤ, ◌==◌, ◌&&◌, nat_lt, List, [], ◌∷◌, ◌++◌, length, Bool, if◌then◌else◌, Option, Some, None, is_none, is_some, option_and_then}
 use Rattle.iso_text.specs.FileValue.{File, file_with_hall}
 use Rattle.iso_text.specs.File.{has_entries, is_new}
+use Rattle.iso_text.specs.LineKinds.{kind_of}
 use Rattle.iso_text.specs.declared.draft.Draft.{Draft}
 use Rattle.iso_text.specs.declared.draft.Stage.{Stage}
 use Rattle.iso_text.specs.declared.draft.Stage.TheVariants.{Begin, Headed, Body, Open, Block, Done}
@@ -11,6 +12,8 @@ use Rattle.iso_text.specs.declared.line_kinds.IrrepLine.{IrrepLine}
 use Rattle.iso_text.specs.declared.line_kinds.Line.{Line}
 use Rattle.iso_text.specs.declared.line_kinds.Line.TheVariants.{Skip, Bad, Head, Hall, Irrep, K, Mat, Atom, Tolerance, Listed, End}
 use Rattle.iso_text.specs.declared.numbers.Frac.{Frac}
+use Rattle.iso_text.specs.declared.read_error.ReadError.{ReadError}
+use Rattle.iso_text.specs.declared.read_error.ReadError.TheVariants.{BadText, NoMemory}
 use Rattle.iso_text.specs.declared.sections.AtomText.{AtomText}
 use Rattle.iso_text.specs.declared.sections.IrrepText.{IrrepText}
 use Rattle.iso_text.specs.declared.sections.MatText.{MatText}
@@ -90,3 +93,8 @@ finished d = done d.stage d.document
     done : Stage → File → Option File
     done Done f = Some f
     done _ f = None
+
+-- why the line isn't taken: it can't stand there, or memory is wanting
+abbrev pub Refuses : Draft → ℕ → List ℕ → ReadError → Type 0
+Refuses d n line (BadText number) = (number ≡ n) × (next_of d (kind_of n line) ≡ None)
+Refuses d n line NoMemory = Unit {0}

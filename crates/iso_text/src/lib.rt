@@ -18,6 +18,7 @@ mod number_words;
 mod numbers;
 mod operation_words;
 mod read_error;
+mod reading;
 mod sections;
 mod text;
 
@@ -28,5 +29,6 @@ pub use name::Name;
 pub use number_lists::{NumList, NumText};
 pub use numbers::{Frac, OpText, Term, Unit};
 pub use read_error::ReadError;
+pub use reading::MAX_FILE_BYTES;
 pub use sections::{AtomList, AtomText, IrrepList, IrrepText, MatList, MatText};
 pub use text::Text;
