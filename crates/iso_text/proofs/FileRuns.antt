@@ -142,10 +142,11 @@ atoms_run [] d g is no_tolerance few = (d, refl, is ∙ ap (λ x. let h : File =
 atoms_run (a ∷ atoms) d g is no_tolerance few =
     let longer : File = record g { atoms = g.atoms ++ a ∷ [] } in
     let test : (is_none g.tolerance && nat_lt (length g.atoms) 64) ≡ true = both (is_none g.tolerance) (nat_lt (length g.atoms) 64) (ap (λ x. is_none x) no_tolerance) (lt-ltb (length g.atoms) 64 (omega arith)) in
-    let rest = atoms_run atoms (draft Body longer) longer refl no_tolerance (omega (arith, few, length-append g.atoms (a ∷ []))) in
-    (rest.0,
-     ap (λ o. option_and_then (λ e. runs e (map (λ x. Atom x) atoms)) (option_and_then (on_atom a) o)) is ∙ ap (λ b. option_and_then (λ e. runs e (map (λ x. Atom x) atoms)) (if b then Some (draft Body longer) else None)) test ∙ rest.1,
-     rest.2 ∙ ap (λ x. let h : File = record g { atoms = x } in Some h) (append_assoc g.atoms (a ∷ []) atoms))
+    let rest = atoms_run atoms (draft Body longer) longer refl no_tolerance (omega (arith, few, length-append g.atoms (a ∷ []))) in (
+      rest.0,
+      ap (λ o. option_and_then (λ e. runs e (map (λ x. Atom x) atoms)) (option_and_then (on_atom a) o)) is ∙ ap (λ b. option_and_then (λ e. runs e (map (λ x. Atom x) atoms)) (if b then Some (draft Body longer) else None)) test ∙ rest.1,
+      rest.2 ∙ ap (λ x. let h : File = record g { atoms = x } in Some h) (append_assoc g.atoms (a ∷ []) atoms),
+    )
 
 -- many listed atoms
 pub listed_run : (listed : List AtomText) (d : Draft) (g : File) → settled d.stage d.document ≡ Some g → is_some g.tolerance ≡ true → length g.listed + length listed ≤ 4096
@@ -154,10 +155,11 @@ listed_run [] d g is told few = (d, refl, is ∙ ap (λ x. let h : File = record
 listed_run (a ∷ listed) d g is told few =
     let longer : File = record g { listed = g.listed ++ a ∷ [] } in
     let test : (is_some g.tolerance && nat_lt (length g.listed) 4096) ≡ true = both (is_some g.tolerance) (nat_lt (length g.listed) 4096) told (lt-ltb (length g.listed) 4096 (omega arith)) in
-    let rest = listed_run listed (draft Body longer) longer refl told (omega (arith, few, length-append g.listed (a ∷ []))) in
-    (rest.0,
-     ap (λ o. option_and_then (λ e. runs e (map (λ x. Listed x) listed)) (option_and_then (on_listed a) o)) is ∙ ap (λ b. option_and_then (λ e. runs e (map (λ x. Listed x) listed)) (if b then Some (draft Body longer) else None)) test ∙ rest.1,
-     rest.2 ∙ ap (λ x. let h : File = record g { listed = x } in Some h) (append_assoc g.listed (a ∷ []) listed))
+    let rest = listed_run listed (draft Body longer) longer refl told (omega (arith, few, length-append g.listed (a ∷ []))) in (
+      rest.0,
+      ap (λ o. option_and_then (λ e. runs e (map (λ x. Listed x) listed)) (option_and_then (on_listed a) o)) is ∙ ap (λ b. option_and_then (λ e. runs e (map (λ x. Listed x) listed)) (if b then Some (draft Body longer) else None)) test ∙ rest.1,
+      rest.2 ∙ ap (λ x. let h : File = record g { listed = x } in Some h) (append_assoc g.listed (a ∷ []) listed),
+    )
 
 pub leads_on : (d : Draft) (a b : List Line) (g h : File) → (first : Leads d a g) → Leads first.0 b h → Leads d (a ++ b) h
 leads_on d a b g h first rest = (rest.0, then_runs d first.0 a b (Some rest.0) first.1 rest.1, rest.2)
@@ -168,13 +170,14 @@ tail_runs : (tolerance : Option ℤ) (listed : List AtomText) (d : Draft) (g : F
 tail_runs None listed d g is no_tolerance no_listed few only =
     let none = only refl in
     subst (λ x. Leads d (map (λ a. Listed a) x) (record g { tolerance = None; listed = x })) (sym none)
-        (d, refl, is ∙ ap (λ x. let h : File = record g { tolerance = x } in Some h) no_tolerance ∙ ap (λ x. let h : File = record g { tolerance = None; listed = x } in Some h) no_listed)
+    (d, refl, is ∙ ap (λ x. let h : File = record g { tolerance = x } in Some h) no_tolerance ∙ ap (λ x. let h : File = record g { tolerance = None; listed = x } in Some h) no_listed)
 tail_runs (Some z) listed d g is no_tolerance no_listed few only =
     let told : File = record g { tolerance = Some z } in
-    let rest = listed_run listed (draft Body told) told refl refl (omega (arith, few, ap (λ x. length x) no_listed)) in
-    (rest.0,
-     ap (λ o. option_and_then (λ e. runs e (map (λ x. Listed x) listed)) (option_and_then (on_tolerance z) o)) is ∙ ap (λ x. option_and_then (λ e. runs e (map (λ x. Listed x) listed)) (if is_none x then Some (draft Body told) else None)) no_tolerance ∙ rest.1,
-     rest.2 ∙ ap (λ x. let h : File = record told { listed = x ++ listed } in Some h) no_listed)
+    let rest = listed_run listed (draft Body told) told refl refl (omega (arith, few, ap (λ x. length x) no_listed)) in (
+      rest.0,
+      ap (λ o. option_and_then (λ e. runs e (map (λ x. Listed x) listed)) (option_and_then (on_tolerance z) o)) is ∙ ap (λ x. option_and_then (λ e. runs e (map (λ x. Listed x) listed)) (if is_none x then Some (draft Body told) else None)) no_tolerance ∙ rest.1,
+      rest.2 ∙ ap (λ x. let h : File = record told { listed = x ++ listed } in Some h) no_listed,
+    )
 
 -- a file runs to its end
 pub file_runs : (f : File) → IsSound f → runs begin (file_lines f) ≡ Some (draft Done f)
@@ -188,4 +191,4 @@ file_runs f sound =
     let back = leads_on blocks.0 (map (λ a. Atom a) f.atoms) (tolerance_lines f.tolerance ++ map (λ a. Listed a) f.listed) with_atoms f atoms tail in
     let all = leads_on (draft Body start) (flat_map block_lines f.irreps) (map (λ a. Atom a) f.atoms ++ (tolerance_lines f.tolerance ++ map (λ a. Listed a) f.listed)) with_irreps f blocks back in
     then_runs (draft Body start) all.0 (flat_map block_lines f.irreps ++ (map (λ a. Atom a) f.atoms ++ (tolerance_lines f.tolerance ++ map (λ a. Listed a) f.listed))) (End ∷ []) (Some (draft Done f)) all.1
-        (ap (λ o. option_and_then (λ e. Some e) (option_and_then (on_section End) o)) all.2)
+    (ap (λ o. option_and_then (λ e. Some e) (option_and_then (on_section End) o)) all.2)

@@ -124,9 +124,10 @@ stands_next lines n d e line left lines_left stands first step =
 
 -- a line that can't stand there
 pub stands_bad : (lines : List (List ℕ)) (n : ℕ) (d : Draft) (line : List ℕ) (left lines_left : List (List ℕ)) → Stands lines n d left → left ≡ line ∷ lines_left → next_of d (kind_of (n + 1) line) ≡ None → IsBadAfter n lines
-stands_bad lines n d line left lines_left stands first stopped =
-    (run_is_start (kinds 1 (take n lines)) d stands.run,
-     inl (stop_is_no_start (kinds 1 (take (n + 1) lines)) (run_more lines n d line lines_left stands.run (stands.rest ∙ first) ∙ stopped)))
+stands_bad lines n d line left lines_left stands first stopped = (
+  run_is_start (kinds 1 (take n lines)) d stands.run,
+  inl (stop_is_no_start (kinds 1 (take (n + 1) lines)) (run_more lines n d line lines_left stands.run (stands.rest ∙ first) ∙ stopped)),
+)
 
 all_taken : (lines : List (List ℕ)) (n : ℕ) → drop n lines ≡ [] → take n lines ≡ lines
 all_taken [] zero e = refl
@@ -138,9 +139,10 @@ all_taken (first ∷ lines) (suc n) e = ap (λ x. first ∷ x) (all_taken lines 
 pub stands_short : (lines : List (List ℕ)) (n : ℕ) (d : Draft) → Stands lines n d [] → finished d ≡ None → IsBadAfter n lines
 stands_short lines n d stands none =
     let whole = all_taken lines n stands.rest in
-    let count : length lines ≡ n = omega (arith, ap (λ x. length x) whole, take_length lines n, stands.within) in
-    (run_is_start (kinds 1 (take n lines)) d stands.run,
-     inr (count, short_is_no_file (kinds 1 lines) d (ap (λ x. runs begin (kinds 1 x)) (sym whole) ∙ stands.run) none))
+    let count : length lines ≡ n = omega (arith, ap (λ x. length x) whole, take_length lines n, stands.within) in (
+      run_is_start (kinds 1 (take n lines)) d stands.run,
+      inr (count, short_is_no_file (kinds 1 lines) d (ap (λ x. runs begin (kinds 1 x)) (sym whole) ∙ stands.run) none),
+    )
 
 -- all lines are read, and they are a file
 pub stands_whole : (lines : List (List ℕ)) (n : ℕ) (d : Draft) (f : File) → Stands lines n d [] → finished d ≡ Some f → IsFile lines f

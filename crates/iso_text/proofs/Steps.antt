@@ -108,9 +108,10 @@ settled_keeps Body f g e at = let same : f ≡ g = cc in (subst (λ x. IsSound x
 settled_keeps (Block i) f g e at =
     let closed : File = record f { irreps = f.irreps ++ i ∷ [] } in
     let test = guard_not (length i.mats == 0) closed g e in
-    let takes = at.takes in
-    (subst (λ x. IsSound x) test.1 (with_block i f at (some_length i.mats test.0)),
-     sym (ap (λ x. body_lines x) test.1) ∙ body-block f.hall_line f.hall f.irreps i f.atoms f.tolerance f.listed takes.atoms takes.tolerance (takes.sound.tolerance takes.tolerance))
+    let takes = at.takes in (
+      subst (λ x. IsSound x) test.1 (with_block i f at (some_length i.mats test.0)),
+      sym (ap (λ x. body_lines x) test.1) ∙ body-block f.hall_line f.hall f.irreps i f.atoms f.tolerance f.listed takes.atoms takes.tolerance (takes.sound.tolerance takes.tolerance),
+    )
 
 irrep_keeps : (h : IrrepLine) (f : File) (e : Draft) → on_irrep h f ≡ Some e → IsSound f → Holds e (body_lines f ++ Irrep h ∷ [])
 irrep_keeps h f e step sound =

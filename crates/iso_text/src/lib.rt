@@ -20,6 +20,8 @@ mod operation_words;
 mod read_error;
 mod reading;
 mod sections;
+#[cfg(test)]
+mod tests;
 mod text;
 
 pub use document::Document;
