@@ -1,6 +1,17 @@
 pub mod Counts
+pub mod Cuts
+pub mod Digits
+pub mod Draft
+pub mod File
+pub mod FileValue
+pub mod Fractions
+pub mod LineKinds
+pub mod Lines
+pub mod Mark
 pub mod Memory
 pub mod Name
 pub mod NameView
 pub mod NumberedGroup
+pub mod Numbers
+pub mod Operations
 pub mod Streams

@@ -1,25 +1,46 @@
-//! Bytes in and out: streams whose contracts tell what was read and written, and the small types
-//! of a file's words that every layer shares.
+//! Bytes in and out, and the words and lines of a file: streams whose contracts tell what was read
+//! and written, and `Document::read`, which reads exactly the files of the grammar.
 //!
-//! Conventions: a text is a list of bytes; a translation is in twelfths of a cell edge. The layers
-//! above use `take_all` and `put_all` by the meanings of `Source` and `Sink`.
+//! Conventions: a text is a list of bytes; a translation is in twelfths of a cell edge, a place in
+//! units of 1/12,000,000 of one. The layers above use `take_all` and `put_all` by the meanings of
+//! `Source` and `Sink`, and `Document::read`.
 #![tactic(auto)]
 
 mod calls;
+mod cuts;
+mod digits;
+mod document;
+mod draft;
 mod errors;
+mod fractions;
+mod line_kinds;
+mod lines;
 mod memory;
 mod memory_sink;
 mod name;
+mod number_lists;
+mod number_words;
 mod numbers;
+mod operation_words;
+mod read_error;
+mod reading;
+mod sections;
 mod sink;
 mod source;
+#[cfg(test)]
+mod tests;
 mod text;
 
+pub use document::Document;
 pub use errors::{Failed, NoMemory, TakeError, WriteFault};
+pub use fractions::UNITS_PER_EDGE;
 pub use memory::{CalmSource, MemSource};
 pub use memory_sink::MemSink;
 pub use name::Name;
-pub use numbers::{Frac, Term, Unit};
+pub use number_lists::{NumList, NumText};
+pub use numbers::{Frac, OpText, Term, Unit};
+pub use read_error::ReadError;
+pub use sections::{AtomList, AtomText, IrrepList, IrrepText, MatList, MatText};
 pub use sink::{Sink, put_all};
 pub use source::{MAX_BYTES, Source, take_all};
 pub use text::Text;

@@ -32,3 +32,11 @@ pub struct Term {
     pub den: u8,
     pub unit: Unit,
 }
+
+/// An operation as a file writes it: the rotation row by row, and the translation in twelfths of a
+/// cell edge, not reduced into a cell. Entries are from -3 to 3, shifts from -1440 to 1440.
+#[derive(Clone, Copy, Debug, PartialEq, Eq)]
+pub struct OpText {
+    pub rows: [[i8; 3]; 3],
+    pub shift: [i32; 3],
+}
