@@ -12,3 +12,4 @@ pub mod NameView
 pub mod NumberedGroup
 pub mod Numbers
 pub mod Operations
+pub mod Spellings
