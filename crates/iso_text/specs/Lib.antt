@@ -14,4 +14,5 @@ pub mod NameView
 pub mod NumberedGroup
 pub mod Numbers
 pub mod Operations
+pub mod Spellings
 pub mod Streams

@@ -20,61 +20,18 @@ fn bad_line(alloc: Global, bytes: &[u8]) -> Option<u32> {
 
 #[test]
 fn cuts_seen_by_the_reader(rt: HostRuntime) {
-    let cuts: [(usize, usize, u32); 12] = [
-        (0, 1, 0),
-        (2, 5, 7),
-        (6, 19, 6),
-        (20, 21, 6),
-        (22, 31, 5),
-        (32, 33, 5),
-        (34, 39, 4),
-        (40, 41, 4),
-        (42, 50, 3),
-        (51, 55, 3),
-        (56, 62, 2),
-        (63, 71, 1),
-    ];
-    for (first, last, line) in cuts {
-        for cut in first..=last {
-            let kept = INVERSION
-                .get(..INVERSION.len().saturating_sub(cut))
-                .unwrap_or(b"");
-            assert_eq!(rt; bad_line(rt.alloc(), kept), Some(line));
-        }
+    // the greatest cut with each answer, 0 where the rest is read
+    let lasts = [1, 5, 19, 21, 31, 33, 39, 41, 50, 55, 62, 71];
+    let lines = [0, 7, 6, 6, 5, 5, 4, 4, 3, 3, 2, 1];
+    for cut in 0..=INVERSION.len() {
+        let (kept, _) = INVERSION.split_at(INVERSION.len() - cut);
+        let line = lasts
+            .iter()
+            .zip(lines)
+            .find(|(last, _)| cut <= **last)
+            .map(|(_, line)| line);
+        assert_eq!(rt; bad_line(rt.alloc(), kept), line);
     }
-}
-
-#[test]
-fn values_of_the_inversion_file(rt: HostRuntime) -> Result<(), Fail> {
-    let document = Document::read(rt.alloc(), INVERSION)?;
-    assert_eq!(rt; document.hall(), b"-P 1".as_slice());
-    assert_eq!(rt; document.hall_line(), 2);
-    assert_eq!(rt; document.tolerance(), 0);
-    assert_eq!(rt; document.atoms().len(), 0);
-    assert_eq!(rt; document.listed().len(), 0);
-    let [irrep] = document.irreps() else {
-        return Err(Fail::from("one irrep"));
-    };
-    assert_eq!(rt; irrep.name.as_slice(), b"G1".as_slice());
-    assert_eq!(rt; irrep.line, 3);
-    assert_eq!(rt; irrep.size, 1);
-    assert_eq!(rt; irrep.k, [Frac { num: 0, den: 1 }; 3]);
-    let [identity, inversion] = irrep.mats.as_slice() else {
-        return Err(Fail::from("two matrices"));
-    };
-    assert_eq!(rt; identity.line, 5);
-    assert_eq!(rt; inversion.line, 6);
-    assert_eq!(rt; inversion.op.rows, [[-1, 0, 0], [0, -1, 0], [0, 0, -1]]);
-    let [entry] = inversion.entries.as_slice() else {
-        return Err(Fail::from("one entry"));
-    };
-    let term = Term {
-        num: -1,
-        den: 1,
-        unit: Unit::One,
-    };
-    assert_eq!(rt; entry.as_slice(), [term].as_slice());
-    Ok(())
 }
 
 #[test]
@@ -99,50 +56,6 @@ fn blanks_returns_and_comments(rt: HostRuntime) -> Result<(), Fail> {
     Ok(())
 }
 
-#[test]
-fn lines_out_of_place(rt: HostRuntime) {
-    let files: [(&[u8], u32); 26] = [
-        (b"", 1),
-        (b"\n\n", 3),
-        (b"isodist 2\n", 1),
-        (b"isodist 1 1\n", 1),
-        (b"hall P 1\n", 1),
-        (b"isodist 1\nisodist 1\n", 2),
-        (b"isodist 1\nend\n", 2),
-        (b"isodist 1\nhall \t\nend\n", 2),
-        (b"isodist 1\nhallP 1\nend\n", 2),
-        (b"isodist 1\nhall P 1\nhall P 1\nend\n", 3),
-        (b"isodist 1\r\r\nhall P 1\nend\n", 1),
-        (b"isodist 1\n #\nhall P 1\nend\n", 2),
-        (b"isodist 1\nhall P 1\nend\nend\n", 4),
-        (b"isodist 1\nhall P 1\nend 1\n", 3),
-        (b"isodist 1\nhall P 1\nk 0 0 0\nend\n", 3),
-        (b"isodist 1\nhall P 1\nirrep A 1\nmat x,y,z 1\nend\n", 4),
-        (b"isodist 1\nhall P 1\nirrep A 1\nk 0 0 0\nend\n", 5),
-        (b"isodist 1\nhall P 1\nirrep A 7\n", 3),
-        (
-            b"isodist 1\nhall P 1\nirrep A 2\nk 0 0 0\nmat x,y,z 1 0 0\nend\n",
-            5,
-        ),
-        (
-            b"isodist 1\nhall P 1\nirrep A 2\nk 0 0 0\nmat x,y,z 1 0 0 1 0\nend\n",
-            5,
-        ),
-        (
-            b"isodist 1\nhall P 1\nirrep A 1\nk 0 0 0\nmat x,y,z 1\n#\nirrep A 1\nend\n",
-            7,
-        ),
-        (b"isodist 1\nhall P 1\natom A 0 0 0\nirrep A 1\n", 4),
-        (b"isodist 1\nhall P 1\nlisted A 0 0 0\nend\n", 3),
-        (b"isodist 1\nhall P 1\ntolerance 0\ntolerance 0\nend\n", 4),
-        (b"isodist 1\nhall P 1\ntolerance 0\natom A 0 0 0\nend\n", 4),
-        (b"isodist 1\nhall P 1\natom A 0 0\nend\n", 3),
-    ];
-    for (bytes, line) in files {
-        assert_eq!(rt; bad_line(rt.alloc(), bytes), Some(line));
-    }
-}
-
 // A file with so many lines in the middle, each the same.
 fn with_lines(
     alloc: Global,
@@ -160,42 +73,122 @@ fn with_lines(
     Ok(bytes)
 }
 
+// The line of the refusal of such a file.
+fn bad_line_with(
+    alloc: Global,
+    front: &[u8],
+    line: &[u8],
+    count: usize,
+    back: &[u8],
+) -> Result<Option<u32>, Fail> {
+    let bytes = with_lines(alloc, front, line, count, back)?;
+    Ok(bad_line(alloc, &bytes))
+}
+
+fn is_bar(byte: &u8) -> bool {
+    *byte == b'|'
+}
+
 #[test]
-fn counts_at_their_limits(rt: HostRuntime) -> Result<(), Fail> {
-    let files: [(&[u8], &[u8], usize, u32); 8] = [
-        (b"isodist 1\nhall P 1\n", b"atom A 0 0 0\n", 64, 0),
-        (b"isodist 1\nhall P 1\n", b"atom A 0 0 0\n", 65, 67),
-        (
-            b"isodist 1\nhall P 1\ntolerance 0\n",
-            b"listed A 0 0 0\n",
-            4096,
-            0,
-        ),
-        (
-            b"isodist 1\nhall P 1\ntolerance 0\n",
-            b"listed A 0 0 0\n",
-            4097,
-            4100,
-        ),
-        (
-            b"isodist 1\nhall P 1\nirrep A 1\nk 0 0 0\n",
-            b"mat x,y,z 1\n",
-            96,
-            0,
-        ),
-        (
-            b"isodist 1\nhall P 1\nirrep A 1\nk 0 0 0\n",
-            b"mat x,y,z 1\n",
-            97,
-            101,
-        ),
-        (b"isodist 1\nhall P 1\n", b"#\n", 5000, 0),
-        (b"isodist 1\nhall P 1\n", b"\n", 1_048_552, 0),
-    ];
-    for (front, line, count, bad) in files {
-        let bytes = with_lines(rt.alloc(), front, line, count, b"end\n")?;
-        assert_eq!(rt; bad_line(rt.alloc(), &bytes), Some(bad));
+fn heads_that_are_none(rt: HostRuntime) {
+    let files =
+        b"|\n\n|isodist 2\n|isodist 1 1\n|hall P 1\n|isodist 1\r\r\n|isodist 1\nisodist 1\n|isodist 1\nend\n|isodist 1\nhall \t\n|isodist 1\nhallP 1\n|isodist 1\n #\n";
+    let lines = [1, 3, 1, 1, 1, 1, 2, 2, 2, 2, 2];
+    for (bytes, line) in files.split(is_bar).zip(lines) {
+        assert_eq!(rt; bad_line(rt.alloc(), bytes), Some(line));
     }
+}
+
+#[test]
+fn lines_out_of_place(rt: HostRuntime) -> Result<(), Fail> {
+    let files =
+        b"hall P 1\n|end\nend\n|end 1\n|k 0 0 0\n|listed A 0 0 0\n|tolerance 0\ntolerance 0\n|tolerance 0\natom A 0 0 0\n|atom A 0 0\n|atom A 0 0 0\nirrep A 1\n";
+    let lines = [3, 4, 3, 3, 3, 4, 4, 3, 4];
+    for (body, line) in files.split(is_bar).zip(lines) {
+        assert_eq!(rt;
+            bad_line_with(rt.alloc(), b"isodist 1\nhall P 1\n", body, 1, b"end\n")?,
+            Some(line)
+        );
+    }
+    Ok(())
+}
+
+#[test]
+fn blocks_that_are_none(rt: HostRuntime) -> Result<(), Fail> {
+    let files =
+        b"mat x,y,z 1|k 0 0 0\nend|k 0 0 0\nmat x,y,z 1 0 0|k 0 0 0\nmat x,y,z 1 0 0 1 0|k 0 0 0\nmat x,y,z 1 0 0 1\n#\nirrep A 1|k 0 0 0\nirrep B 1";
+    let lines = [4, 5, 5, 5, 7, 5];
+    for (body, line) in files.split(is_bar).zip(lines) {
+        assert_eq!(rt;
+            bad_line_with(
+                rt.alloc(),
+                b"isodist 1\nhall P 1\nirrep A 2\n",
+                body,
+                1,
+                b"\nend\n"
+            )?,
+            Some(line)
+        );
+    }
+    Ok(())
+}
+
+#[test]
+fn atoms_at_their_limit(rt: HostRuntime) -> Result<(), Fail> {
+    let front = b"isodist 1\nhall P 1\n";
+    let line = b"atom A 0 0 0\n";
+    assert_eq!(rt;
+        bad_line_with(rt.alloc(), front, line, 64, b"end\n")?,
+        Some(0)
+    );
+    assert_eq!(rt;
+        bad_line_with(rt.alloc(), front, line, 65, b"end\n")?,
+        Some(67)
+    );
+    Ok(())
+}
+
+#[test]
+fn listed_atoms_at_their_limit(rt: HostRuntime) -> Result<(), Fail> {
+    let front = b"isodist 1\nhall P 1\ntolerance 0\n";
+    let line = b"listed A 0 0 0\n";
+    assert_eq!(rt;
+        bad_line_with(rt.alloc(), front, line, 4096, b"end\n")?,
+        Some(0)
+    );
+    assert_eq!(rt;
+        bad_line_with(rt.alloc(), front, line, 4097, b"end\n")?,
+        Some(4100)
+    );
+    Ok(())
+}
+
+#[test]
+fn matrices_at_their_limit(rt: HostRuntime) -> Result<(), Fail> {
+    let front = b"isodist 1\nhall P 1\nirrep A 1\nk 0 0 0\n";
+    let line = b"mat x,y,z 1\n";
+    assert_eq!(rt;
+        bad_line_with(rt.alloc(), front, line, 96, b"end\n")?,
+        Some(0)
+    );
+    assert_eq!(rt;
+        bad_line_with(rt.alloc(), front, line, 97, b"end\n")?,
+        Some(101)
+    );
+    Ok(())
+}
+
+#[test]
+fn the_longest_file(rt: HostRuntime) -> Result<(), Fail> {
+    let bytes = with_lines(
+        rt.alloc(),
+        b"isodist 1\nhall P 1\n",
+        b"\n",
+        1_048_554,
+        b"end",
+    )?;
+    assert_eq!(rt; bytes.len(), MAX_FILE_BYTES);
+    assert_eq!(rt; bad_line(rt.alloc(), &bytes), Some(0));
     Ok(())
 }
 
@@ -207,47 +200,80 @@ fn eight_irreps(rt: HostRuntime) -> Result<(), Fail> {
         bytes.extend_from_slice(b"irrep ")?;
         bytes.push(*name)?;
         bytes.extend_from_slice(b" 1\nk 0 0 0\nmat x,y,z 1\n")?;
-        let whole = with_lines(rt.alloc(), &bytes, b"", 0, b"end\n")?;
         let bad = if *name == b'I' { 27 } else { 0 };
-        assert_eq!(rt; bad_line(rt.alloc(), &whole), Some(bad));
+        assert_eq!(rt;
+            bad_line_with(rt.alloc(), &bytes, b"end\n", 1, b"")?,
+            Some(bad)
+        );
     }
     Ok(())
 }
 
-// A file with a byte in a place.
-fn with_byte(alloc: Global, front: &[u8], byte: u8, back: &[u8]) -> Result<Vec<u8>, Fail> {
-    with_lines(alloc, front, &[byte], 1, back)
+#[test]
+fn each_byte_in_a_comment(rt: HostRuntime) -> Result<(), Fail> {
+    for byte in 0..=255u8 {
+        let back = b"\nisodist 1\nhall P 1\nend\n";
+        assert_eq!(rt; bad_line_with(rt.alloc(), b"#", &[byte], 1, back)?, Some(0));
+    }
+    Ok(())
+}
+
+fn is_text_byte(byte: u8) -> bool {
+    matches!(byte, b' '..=b'~' | b'\t')
 }
 
 #[test]
-fn each_byte_in_a_place(rt: HostRuntime) -> Result<(), Fail> {
+fn each_byte_in_a_symbol(rt: HostRuntime) -> Result<(), Fail> {
     for byte in 0..=255u8 {
-        let comment = with_byte(rt.alloc(), b"#", byte, b"\nisodist 1\nhall P 1\nend\n")?;
-        assert_eq!(rt; bad_line(rt.alloc(), &comment), Some(0));
-        let inside = matches!(byte, b' '..=b'~' | b'\t');
-        let hall = with_byte(rt.alloc(), b"isodist 1\nhall P", byte, b"1\nend\n")?;
-        let bad = if inside {
+        let bad = if is_text_byte(byte) {
             0
         } else if byte == b'\n' {
             3
         } else {
             2
         };
-        assert_eq!(rt; bad_line(rt.alloc(), &hall), Some(bad));
-        let label = with_byte(
-            rt.alloc(),
-            b"isodist 1\nhall P 1\natom A",
-            byte,
-            b"B 0 0 0\nend\n",
-        )?;
-        let named = byte.is_ascii_alphanumeric() || matches!(byte, b'_' | b'+' | b'-' | b'.');
         assert_eq!(rt;
-            bad_line(rt.alloc(), &label),
-            Some(if named { 0 } else { 3 })
+            bad_line_with(rt.alloc(), b"isodist 1\nhall P", &[byte], 1, b"1\nend\n")?,
+            Some(bad)
         );
-        let end = with_byte(rt.alloc(), b"isodist 1\nhall P 1\nend", byte, b"")?;
-        let ends = matches!(byte, b' ' | b'\t' | b'\n' | b'\r');
-        assert_eq!(rt; bad_line(rt.alloc(), &end), Some(if ends { 0 } else { 3 }));
+    }
+    Ok(())
+}
+
+fn is_label_byte(byte: u8) -> bool {
+    matches!(byte, b'a'..=b'z' | b'A'..=b'Z' | b'0'..=b'9' | b'_' | b'+' | b'-' | b'.')
+}
+
+#[test]
+fn each_byte_in_a_label(rt: HostRuntime) -> Result<(), Fail> {
+    for byte in 0..=255u8 {
+        let bad = if is_label_byte(byte) { 0 } else { 3 };
+        assert_eq!(rt;
+            bad_line_with(
+                rt.alloc(),
+                b"isodist 1\nhall P 1\natom A",
+                &[byte],
+                1,
+                b"B 0 0 0\nend\n"
+            )?,
+            Some(bad)
+        );
+    }
+    Ok(())
+}
+
+#[test]
+fn each_byte_behind_the_end(rt: HostRuntime) -> Result<(), Fail> {
+    for byte in 0..=255u8 {
+        let bad = if matches!(byte, b' ' | b'\t' | b'\n' | b'\r') {
+            0
+        } else {
+            3
+        };
+        assert_eq!(rt;
+            bad_line_with(rt.alloc(), b"isodist 1\nhall P 1\nend", &[byte], 1, b"")?,
+            Some(bad)
+        );
     }
     Ok(())
 }
