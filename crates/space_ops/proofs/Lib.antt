@@ -1,2 +1,4 @@
+pub mod Bounds
 pub mod Passed
+pub mod InverseLemmas
 pub mod TextLemmas

@@ -1,9 +1,12 @@
 pub mod Ring
 pub mod Whole
+pub mod WholeLaws
+pub mod Solve
 pub mod Matrix
+pub mod MatrixLaws
 pub mod Seitz
 pub mod Op
+pub mod OpLaws
 pub mod OpText
-pub mod Lattice
 pub mod OpTextLaws
-pub mod SeitzLaws
+pub mod Lattice

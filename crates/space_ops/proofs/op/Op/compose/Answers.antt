@@ -2,7 +2,11 @@ use Rattle.std.proofs.Common.{◌∙◌, ap, ℤ, List}
 use Rattle.space_ops.specs.Whole.{whole}
 use Rattle.space_ops.specs.Matrix.{vector_sum}
 use Rattle.space_ops.specs.Op.{product_of, shift_of, vector_of}
+use Rattle.space_ops.proofs.Bounds.{rotation_more}
 use Rattle.space_ops.proofs.op.Op.compose.Goals as goal
+
+pub moved-requires-clause-left : goal.moved-requires-clause-left
+moved-requires-clause-left c = rotation_more c.args.self.rot c.requires.left
 
 pub returns : goal.returns
 unfolding product_of
