@@ -2,3 +2,4 @@ pub mod Bounds
 pub mod Passed
 pub mod InverseLemmas
 pub mod TextLemmas
+pub mod LeastLemmas

@@ -10,3 +10,8 @@ pub mod OpLaws
 pub mod OpText
 pub mod OpTextLaws
 pub mod Lattice
+pub mod Words
+pub mod LatticeLaws
+pub mod WordLaws
+pub mod LeastShift
+pub mod LeastShiftLaws

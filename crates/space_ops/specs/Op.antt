@@ -6,6 +6,7 @@
 -- IsWithin n x: x is at most n in absolute value
 -- IsSmallRotation rot: entries from -3 to 3
 -- IsShiftWithin n shift: each coordinate is at most n in absolute value
+-- IsSmallMatrix a: the same of a matrix
 -- IsUnimodular a: the determinant of a is 1 or -1
 -- inverse_of op: {R^-1 | -R^-1 t}, where R is unimodular
 -- identity_op: {E|0}
@@ -85,6 +86,12 @@ IsShiftWithin n shift = IsWithin n (number_at shift 0) × IsWithin n (number_at 
 -- each entry is at most n in absolute value
 abbrev pub IsRotationWithin : ℕ → List (List ℤ) → Type 0
 IsRotationWithin n rot = IsShiftWithin n (row_at rot 0) × IsShiftWithin n (row_at rot 1) × IsShiftWithin n (row_at rot 2)
+
+-- each entry is from -3 to 3
+abbrev pub IsSmallMatrix : Matrix ℤ → Type 0
+IsSmallMatrix a =
+    (IsWithin 3 a.r00 × IsWithin 3 a.r01 × IsWithin 3 a.r02) × (IsWithin 3 a.r10 × IsWithin 3 a.r11 × IsWithin 3 a.r12)
+    × (IsWithin 3 a.r20 × IsWithin 3 a.r21 × IsWithin 3 a.r22)
 
 abbrev pub IsSmallRotation : List (List ℤ) → Type 0
 IsSmallRotation rot = IsRotationWithin 3 rot

@@ -5,12 +5,13 @@
 -- product_unimodular, inverse_unimodular: products and inverses of unimodular matrices are unimodular
 -- product_of-inverse_of, inverse_of-product_of: an operation times its inverse is the identity, from either side
 -- product_of-assoc: the product is associative
+-- seitz-back, back-seitz, seitz_product-assoc, seitz_product-identity, identity-seitz_product: the same of Seitz operations
 use Rattle.std.proofs.Common.{◌≡◌, refl, sym, ap, ◌∙◌, ℤ, pos, ◌*ℤ◌}
 use Rattle.space_ops.specs.declared.op.Op.{Op}
 use Rattle.space_ops.specs.Whole.{whole}
 use Rattle.space_ops.specs.WholeLaws.{whole_ring}
 use Rattle.space_ops.specs.Matrix.{Matrix, matrix_times, image_under, vector_sum, minus_vector, unit_matrix, determinant, scaled}
-use Rattle.space_ops.specs.MatrixLaws.{matrix_times-assoc, matrix_times-adjugate, adjugate-matrix_times, determinant-matrix_times, image_under-product, image_under-minus, less_itself, minus_and_itself, scaled-one, square_of_product}
+use Rattle.space_ops.specs.MatrixLaws.{matrix_times-assoc, matrix_times-unit, unit-matrix_times, zero-image_under, image_under-zero, matrix_times-adjugate, adjugate-matrix_times, determinant-matrix_times, image_under-product, image_under-minus, less_itself, minus_and_itself, scaled-one, square_of_product}
 use Rattle.space_ops.specs.Seitz.{Seitz, seitz_product, seitz_inverse, seitz_identity, inverse_matrix}
 use Rattle.space_ops.specs.Op.{seitz_of, op_of, product_of, inverse_of, identity_op, IsUnimodular}
 
@@ -71,6 +72,12 @@ inverse_of-product_of a u = ap op_of (back-seitz (seitz_of a) u)
 pub seitz_product-assoc : (g h k : Seitz ℤ) → seitz_product whole (seitz_product whole g h) k ≡ seitz_product whole g (seitz_product whole h k)
 seitz_product-assoc g h k =
     same_seitz _ _ (matrix_times-assoc whole whole_ring g.rot h.rot k.rot) (image_under-product whole whole_ring g.rot h.rot g.shift h.shift k.shift)
+
+pub seitz_product-identity : (g : Seitz ℤ) → seitz_product whole g (seitz_identity whole) ≡ g
+seitz_product-identity g = same_seitz _ _ (matrix_times-unit whole whole_ring g.rot) (image_under-zero whole whole_ring g.rot g.shift)
+
+pub identity-seitz_product : (g : Seitz ℤ) → seitz_product whole (seitz_identity whole) g ≡ g
+identity-seitz_product g = same_seitz _ _ (unit-matrix_times whole whole_ring g.rot) (zero-image_under whole whole_ring g.shift)
 
 pub product_of-assoc : (a b c : Op) → product_of (product_of a b) c ≡ product_of a (product_of b c)
 unfolding product_of

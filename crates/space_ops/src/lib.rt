@@ -5,6 +5,7 @@
 #![tactic(auto)]
 
 mod lattice;
+mod least_shift;
 mod op;
 mod op_text;
 mod rotation;
