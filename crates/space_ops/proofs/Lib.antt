@@ -3,3 +3,4 @@ pub mod Passed
 pub mod InverseLemmas
 pub mod TextLemmas
 pub mod LeastLemmas
+pub mod ClosingLemmas

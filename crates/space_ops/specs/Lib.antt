@@ -15,3 +15,5 @@ pub mod LatticeLaws
 pub mod WordLaws
 pub mod LeastShift
 pub mod LeastShiftLaws
+pub mod Group
+pub mod Closing

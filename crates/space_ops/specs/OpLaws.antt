@@ -4,6 +4,7 @@
 -- back-matrix, matrix-back: a unimodular matrix times its inverse is the unit matrix, from either side
 -- product_unimodular, inverse_unimodular: products and inverses of unimodular matrices are unimodular
 -- product_of-inverse_of, inverse_of-product_of: an operation times its inverse is the identity, from either side
+-- product_of-shaped, inverse_of-shaped: they have three rows of three entries, and three coordinates
 -- product_of-assoc: the product is associative
 -- seitz-back, back-seitz, seitz_product-assoc, seitz_product-identity, identity-seitz_product: the same of Seitz operations
 use Rattle.std.proofs.Common.{◌≡◌, refl, sym, ap, ◌∙◌, ℤ, pos, ◌*ℤ◌}
@@ -82,3 +83,11 @@ identity-seitz_product g = same_seitz _ _ (unit-matrix_times whole whole_ring g.
 pub product_of-assoc : (a b c : Op) → product_of (product_of a b) c ≡ product_of a (product_of b c)
 unfolding product_of
 product_of-assoc a b c = ap op_of (seitz_product-assoc (seitz_of a) (seitz_of b) (seitz_of c))
+
+pub product_of-shaped : (a b : Op) → product_of a b ≡ op_of (seitz_of (product_of a b))
+unfolding product_of
+product_of-shaped a b = refl
+
+pub inverse_of-shaped : (a : Op) → inverse_of a ≡ op_of (seitz_of (inverse_of a))
+unfolding inverse_of
+inverse_of-shaped a = refl

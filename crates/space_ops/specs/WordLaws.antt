@@ -2,7 +2,8 @@
 --
 -- AreUnimodular gens: each generator's determinant is 1 or -1
 -- word-identity, word-step, word-product: the identity, steps and products of words are words
--- word-opposite: each word has an inverse that is a word
+-- word-same: a lattice translation after a word is a word
+-- word-opposite, word-inverse: each word has an inverse that is a word
 -- word-difference: two words of one rotation differ by a pure translation that is a word
 -- word-image: the image of a lattice vector under a word's rotation is a pure translation that is a word
 -- extra-from_difference, extra-from_image: where these are outside the lattice there is an extra translation
@@ -13,11 +14,11 @@ use Rattle.space_ops.specs.declared.lattice.Lattice.{Lattice}
 use Rattle.space_ops.specs.Whole.{whole}
 use Rattle.space_ops.specs.WholeLaws.{whole_ring}
 use Rattle.space_ops.specs.Matrix.{Matrix, Vector, matrix_times, image_under, vector_sum, minus_vector, zero_vector, unit_matrix}
-use Rattle.space_ops.specs.MatrixLaws.{same_vector, matrix_times-unit}
+use Rattle.space_ops.specs.MatrixLaws.{same_vector, matrix_times-unit, unit-matrix_times}
 use Rattle.space_ops.specs.Seitz.{Seitz, seitz_product, seitz_inverse, seitz_identity}
 use Rattle.space_ops.specs.Op.{IsUnimodular}
 use Rattle.space_ops.specs.OpLaws.{same_seitz, seitz-back, back-seitz, seitz_product-assoc, seitz_product-identity, identity-seitz_product}
-use Rattle.space_ops.specs.Words.{op_at, IsLatticeVector, IsLatticeTranslation, vector_difference, IsStep, AreSteps, word_value, IsWord, HasExtraTranslation}
+use Rattle.space_ops.specs.Words.{op_at, IsLatticeVector, IsSameUpToLattice, vector_difference, IsStep, AreSteps, word_value, IsWord, HasExtraTranslation}
 use Rattle.space_ops.specs.LatticeLaws.{minus-lattice}
 
 abbrev pub AreUnimodular : List Op → Type 0
@@ -82,6 +83,15 @@ module _ (gens : List Op) (lattice : Lattice) where
     value = value-append a.word b.word ∙ same_product (word_value a.word) g (word_value b.word) h a.value b.value;
   }
 
+  -- a lattice translation after a word
+  pub word-same : (g h : Seitz ℤ) → IsWord gens lattice h → IsSameUpToLattice lattice g h → IsWord gens lattice g
+  word-same g h b e =
+      subst (IsWord gens lattice)
+      (same_seitz (seitz_product whole (translation (vector_difference g.shift h.shift)) h) g
+      (unit-matrix_times whole whole_ring h.rot ∙ sym e.rotation)
+      (same_vector _ _ (omega (arith, ints)) (omega (arith, ints)) (omega (arith, ints))))
+      (word-product (translation (vector_difference g.shift h.shift)) h (word-lattice (vector_difference g.shift h.shift) e.translation) b)
+
   module _ (u : AreUnimodular gens) where
     step-opposite : (s : Seitz ℤ) → IsStep gens lattice s → (s' : Seitz ℤ) × IsStep gens lattice s' × (seitz_product whole s s' ≡ seitz_identity whole)
     step-opposite s (inl (i, l, e)) =
@@ -107,6 +117,15 @@ module _ (gens : List Op) (lattice : Lattice) where
     -- a word after g that gives the identity
     pub word-opposite : (g : Seitz ℤ) → IsWord gens lattice g → (g' : Seitz ℤ) × IsWord gens lattice g' × (seitz_product whole g g' ≡ seitz_identity whole)
     word-opposite g h = let p = steps-opposite h.word h.steps in (p.0, p.1, ap (λ x. seitz_product whole x p.0) (sym h.value) ∙ p.2)
+
+    -- the inverse of a word
+    pub word-inverse : (g : Seitz ℤ) → IsWord gens lattice g → IsUnimodular g.rot → IsWord gens lattice (seitz_inverse whole g)
+    word-inverse g h v =
+        let p = word-opposite g h in
+        subst (IsWord gens lattice)
+        (sym (identity-seitz_product p.0) ∙ ap (λ x. seitz_product whole x p.0) (sym (back-seitz g v)) ∙ seitz_product-assoc (seitz_inverse whole g) g p.0
+        ∙ ap (seitz_product whole (seitz_inverse whole g)) p.2 ∙ seitz_product-identity (seitz_inverse whole g))
+        p.1
 
     pub word-difference : (g h : Seitz ℤ) → IsWord gens lattice g → IsWord gens lattice h → g.rot ≡ h.rot → IsWord gens lattice (translation (vector_difference g.shift h.shift))
     word-difference g h a b e =
@@ -145,3 +164,17 @@ module _ (gens : List Op) (lattice : Lattice) where
       is_pure = refl;
       outside = n;
     }
+
+    -- words over steps that are words over the generators
+    pub words-over_words : (steps : List Op) → ((j : ℕ) → j < length steps → IsWord gens lattice (op_at steps j)) → AreUnimodular steps
+        → (w : List (Seitz ℤ)) → AreSteps steps lattice w → IsWord gens lattice (word_value w)
+    words-over_words steps h v [] k = word-identity
+    words-over_words steps h v (s ∷ w) (inl (i, l, e), k) =
+        word-product s (word_value w) (subst (IsWord gens lattice) (sym e) (h i l)) (words-over_words steps h v w k)
+    words-over_words steps h v (s ∷ w) (inr (inl (i, l, e)), k) =
+        word-product s (word_value w) (subst (IsWord gens lattice) (sym e) (word-inverse (op_at steps i) (h i l) (v i l))) (words-over_words steps h v w k)
+    words-over_words steps h v (s ∷ w) (inr (inr t), k) = word-product s (word_value w) (word-step s (inr (inr t))) (words-over_words steps h v w k)
+
+    pub word-over_words : (steps : List Op) → ((j : ℕ) → j < length steps → IsWord gens lattice (op_at steps j)) → AreUnimodular steps
+        → (g : Seitz ℤ) → IsWord steps lattice g → IsWord gens lattice g
+    word-over_words steps h v g k = subst (IsWord gens lattice) k.value (words-over_words steps h v k.word k.steps)

@@ -4,6 +4,9 @@
 //! in twelfths of a cell edge. Hall symbols: S. R. Hall, Acta Cryst. A37 (1981) 517.
 #![tactic(auto)]
 
+mod closing;
+mod find;
+mod group;
 mod lattice;
 mod least_shift;
 mod op;
@@ -11,5 +14,6 @@ mod op_text;
 mod rotation;
 mod shift;
 
+pub use group::GroupError;
 pub use lattice::Lattice;
 pub use op::{Op, TWELFTHS};

@@ -23,7 +23,8 @@ impl Op {
         requires left_shift { IsShiftWithin 1000000 self.shift }
         requires right { IsSmallRotation other.rot }
         requires right_shift { IsShiftWithin 1000000 other.shift }
-        ensures { result ≡ product_of self other }
+        ensures product { result ≡ product_of self other }
+        ensures near { IsShiftWithin 55000000 result.shift }
     {
         Op {
             rot: rotation_product(self.rot, other.rot),
@@ -37,7 +38,8 @@ impl Op {
         requires small { IsSmallRotation self.rot }
         requires shift { IsShiftWithin 1000000 self.shift }
         requires unimodular { IsUnimodular (matrix_of self.rot) }
-        ensures { result ≡ inverse_of self }
+        ensures inverse { result ≡ inverse_of self }
+        ensures near { IsShiftWithin 54000000 result.shift }
     {
         let rot = inverse_rotation(self.rot);
         Op {

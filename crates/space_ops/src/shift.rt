@@ -40,7 +40,8 @@ pub fn long_dot(row: [i8; 3], shift: [i32; 3]) -> i32
 fn pair_sum(a: i32, b: i32) -> i32
     requires first { IsWithin 1000000 a }
     requires second { IsWithin 54000000 b }
-    ensures { result ≡ a +ℤ b }
+    ensures value { result ≡ a +ℤ b }
+    ensures within { IsWithin 55000000 result }
 {
     a + b
 }
@@ -49,7 +50,8 @@ fn pair_sum(a: i32, b: i32) -> i32
 pub fn shift_sum(a: [i32; 3], b: [i32; 3]) -> [i32; 3]
     requires left { IsShiftWithin 1000000 a }
     requires right { IsShiftWithin 54000000 b }
-    ensures { result ≡ shift_of (vector_sum whole (vector_of a) (vector_of b)) }
+    ensures value { result ≡ shift_of (vector_sum whole (vector_of a) (vector_of b)) }
+    ensures within { IsShiftWithin 55000000 result }
 {
     [
         pair_sum(a[0], b[0]),
@@ -60,7 +62,8 @@ pub fn shift_sum(a: [i32; 3], b: [i32; 3]) -> [i32; 3]
 
 fn negative(a: i32) -> i32
     requires { IsWithin 54000000 a }
-    ensures { result ≡ neg_ℤ a }
+    ensures value { result ≡ neg_ℤ a }
+    ensures within { IsWithin 54000000 result }
 {
     -a
 }
@@ -68,7 +71,8 @@ fn negative(a: i32) -> i32
 /// The translation with the signs changed.
 pub fn negative_shift(a: [i32; 3]) -> [i32; 3]
     requires { IsShiftWithin 54000000 a }
-    ensures { result ≡ shift_of (minus_vector whole (vector_of a)) }
+    ensures value { result ≡ shift_of (minus_vector whole (vector_of a)) }
+    ensures within { IsShiftWithin 54000000 result }
 {
     [negative(a[0]), negative(a[1]), negative(a[2])]
 }

@@ -8,7 +8,7 @@ use Rattle.space_ops.proofs.op.Op.compose.Goals as goal
 pub moved-requires-clause-left : goal.moved-requires-clause-left
 moved-requires-clause-left c = rotation_more c.args.self.rot c.requires.left
 
-pub returns : goal.returns
+pub returns-clause-product : goal.returns-clause-product
 unfolding product_of
-returns c =
-    λ i. record { rot = c.rotation_product.ensures i; shift = (c.shift_sum.ensures ∙ ap (λ (t : List ℤ). shift_of (vector_sum whole (vector_of c.args.self.shift) (vector_of t))) c.moved.ensures.value) i }
+returns-clause-product c =
+    λ i. record { rot = c.rotation_product.ensures i; shift = (c.shift_sum.ensures.value ∙ ap (λ (t : List ℤ). shift_of (vector_sum whole (vector_of c.args.self.shift) (vector_of t))) c.moved.ensures.value) i }
