@@ -13,13 +13,13 @@ use Rattle.space_ops.specs.LeastShift.{IsShaped, IsLeastShift, IsLeastOp}
 use Rattle.space_ops.specs.LeastShiftLaws.{differ-sym, least-unique, least-itself}
 use Rattle.space_ops.specs.Closing.{AreHeld, IsMet, IsClosing, IsNew, IsFound, IsAdded, IsHolding, IsPastLimits}
 
-op_old : (H : List Op) (x : Op) (i : ℕ) → i < length H → get_or (H ++ x ∷ []) i identity_op ≡ get_or H i identity_op
+pub op_old : (H : List Op) (x : Op) (i : ℕ) → i < length H → get_or (H ++ x ∷ []) i identity_op ≡ get_or H i identity_op
 op_old H x i l = get_or_append_left H (x ∷ []) identity_op i l
 
-op_new : (H : List Op) (x : Op) (i : ℕ) → i ≡ length H → get_or (H ++ x ∷ []) i identity_op ≡ x
+pub op_new : (H : List Op) (x : Op) (i : ℕ) → i ≡ length H → get_or (H ++ x ∷ []) i identity_op ≡ x
 op_new H x i e = get_or_push H x identity_op i (sym e)
 
-length_more : (H : List Op) (x : Op) → length (H ++ x ∷ []) ≡ suc (length H)
+pub length_more : (H : List Op) (x : Op) → length (H ++ x ∷ []) ≡ suc (length H)
 length_more H x = let e : length (H ++ x ∷ []) ≡ length H + 1 = length-append H (x ∷ []) in omega arith
 
 old_or_new : (i n : ℕ) → i < suc n → (i < n) ⊎ (i ≡ n)
@@ -120,14 +120,14 @@ module _ (S : List Op) (L : Lattice) where
       )
 
   next-added : (H : List Op) (c d c' : Bool) (n k : ℕ) (x : Op) → (c' ≡ false → (c ≡ false) × (d ≡ false)) → (c' ≡ true → (c ≡ true) ⊎ (d ≡ true))
-      → IsClosing S L H c n k → n < length H → k < length S → IsLeastOp L (seitz_product whole (op_at H n) (op_at S k)) x
+      → IsClosing S L H c n k → n < length H → k < length S → IsLeastOp L (seitz_product whole (op_at H n) (op_at S k)) x → IsShaped x
       → IsSmallMatrix (seitz_of x).rot → length H < 48 → IsNew H x → d ≡ false → Next H (H ++ x ∷ []) c' n k
-  next-added H c d c' n k x f t h ln lk l small room new df =
+  next-added H c d c' n k x f t h ln lk l shaped small room new df =
       let g = seitz_product whole (op_at H n) (op_at S k) in
       let w : IsWord S L g = word-product S L (op_at H n) (op_at S k) (h.are.are_words n ln) (word-step S L (op_at S k) (inl (k, lk, refl))) in
       let m = length_more H x in (
         record {
-          are = are-more H x h.are (least-word g x w l) (least-itself L g.shift (seitz_of x).shift l.translation) l.shaped small room new;
+          are = are-more H x h.are (least-word g x w l) (least-itself L g.shift (seitz_of x).shift l.translation) shaped small room new;
           done = λ i s li ls. from_old i s (omega arith) (met-more H x c c' _ (λ z. (f z).0) (h.done i s li ls));
           part = below_more _ _ (λ s ls. from_old n s ln (met-more H x c c' _ (λ z. (f z).0) (h.part s ls))) (from_old n k ln (met-added H x c' g l));
           extra = λ z. elim (t z) [ inl p ↦ h.extra p | inr p ↦ absurd (differ d df p) ];
@@ -141,12 +141,12 @@ module _ (S : List Op) (L : Lattice) where
       differ b e f = let h : false ≡ true = sym e ∙ f in cc
 
   pub next : AreUnimodular S → (H H' : List Op) (c d c' : Bool) (n k : ℕ) (x : Op) → (c' ≡ false → (c ≡ false) × (d ≡ false)) → (c' ≡ true → (c ≡ true) ⊎ (d ≡ true))
-      → IsClosing S L H c n k → n < length H → k < length S → IsLeastOp L (seitz_product whole (op_at H n) (op_at S k)) x → IsHolding H H' x d → Next H H' c' n k
-  next u H H' c d c' n k x f t h ln lk l (inl m) =
+      → IsClosing S L H c n k → n < length H → k < length S → IsLeastOp L (seitz_product whole (op_at H n) (op_at S k)) x → IsShaped x → IsHolding H H' x d → Next H H' c' n k
+  next u H H' c d c' n k x f t h ln lk l shaped (inl m) =
       subst (λ (y : List Op). Next H y c' n k) (sym m.unchanged)
       (next-found u H c d c' n k x f t h ln lk l (record { unchanged = refl; place = m.place; below = m.below; rotation = m.rotation; agrees = m.agrees; differs = m.differs }))
-  next u H H' c d c' n k x f t h ln lk l (inr m) =
-      subst (λ (y : List Op). Next H y c' n k) (sym m.added) (next-added H c d c' n k x f t h ln lk l m.small m.room m.new m.none)
+  next u H H' c d c' n k x f t h ln lk l shaped (inr m) =
+      subst (λ (y : List Op). Next H y c' n k) (sym m.added) (next-added H c d c' n k x f t h ln lk l shaped m.small m.room m.new m.none)
 
   -- a product past the limits: too many rotations
   pub many : (H : List Op) (c : Bool) (n k : ℕ) (x : Op) → IsClosing S L H c n k → n < length H → k < length S

@@ -4,3 +4,5 @@ pub mod InverseLemmas
 pub mod TextLemmas
 pub mod LeastLemmas
 pub mod ClosingLemmas
+pub mod StepLemmas
+pub mod KeepLemmas

@@ -1,6 +1,7 @@
 -- How the operations of a group are found: the list of words so far, and the products that it holds.
 --
 -- AreStepOps gens lattice n steps: operations that stand for the first n generators and their inverses
+-- AddsSteps lattice g steps steps': g and its inverse are added to the steps
 -- AreHeld steps lattice held: words over the steps, of different small rotations with least translations, the identity first
 -- IsMet lattice held conflict g: the rotation of g is held, and up to a conflict g is
 -- IsClosing steps lattice held conflict n k: the products of the first n held ones with each step are met,
@@ -17,7 +18,7 @@ use Rattle.space_ops.specs.Matrix.{Matrix, Vector, image_under}
 use Rattle.space_ops.specs.Seitz.{Seitz, seitz_product, seitz_inverse, seitz_identity}
 use Rattle.space_ops.specs.Op.{seitz_of, identity_op, IsSmallMatrix, IsUnimodular}
 use Rattle.space_ops.specs.Words.{op_at, vector_difference, IsLatticeVector, IsWord, HasExtraTranslation}
-use Rattle.space_ops.specs.LeastShift.{IsInCell, IsShaped, IsLeastShift}
+use Rattle.space_ops.specs.LeastShift.{IsInCell, IsShaped, IsLeastShift, IsLeastOp}
 use Rattle.space_ops.specs.Group.{IsListed}
 
 pub record AreStepOps (gens : List Op) (lattice : Lattice) (n : ℕ) (steps : List Op) : Type 0 where
@@ -27,6 +28,15 @@ pub record AreStepOps (gens : List Op) (lattice : Lattice) (n : ℕ) (steps : Li
   pub in_cell : (j : ℕ) → j < length steps → IsInCell (op_at steps j).shift
   pub forward : (i : ℕ) → i < n → IsListed lattice steps (op_at gens i)
   pub backward : (i : ℕ) → i < n → IsListed lattice steps (seitz_inverse whole (op_at gens i))
+
+-- g and its inverse at the end, with their least translations
+pub record AddsSteps (lattice : Lattice) (g : Seitz ℤ) (steps steps' : List Op) : Type 0 where
+  pub first : Op
+  pub second : Op
+  pub added : steps' ≡ (steps ++ first ∷ []) ++ second ∷ []
+  pub is_first : IsLeastOp lattice g first
+  pub is_second : IsLeastOp lattice (seitz_inverse whole g) second
+  pub small : IsSmallMatrix (seitz_inverse whole g).rot
 
 pub record AreHeld (steps : List Op) (lattice : Lattice) (held : List Op) : Type 0 where
   pub some : 0 < length held

@@ -1,6 +1,7 @@
 -- Lattice vectors are a group under addition.
 --
 -- zero-lattice, sum-lattice, minus-lattice, difference-lattice: the zero vector, sums, negatives and differences
+-- centring-lattice: centring vectors
 -- edges-lattice: a lattice vector and whole cell edges
 -- image-lattice: images under a matrix that keeps the centring vectors
 use Rattle.std.proofs.Common.{◌≡◌, refl, sym, ap, ◌∙◌, subst, ℕ, zero, suc, ◌<◌, ℤ, pos, negsuc, length, arith}
@@ -108,6 +109,14 @@ edges-lattice lattice t v h = record {
   listed = h.listed;
   edges = vector_sum whole h.edges v;
   is = ap (λ w. vector_sum whole w (cell_edges v)) h.is ∙ more_edges (centring_at lattice h.centring) h.edges v;
+}
+
+pub centring-lattice : (lattice : Lattice) (i : ℕ) → i < length (centrings_of lattice) → IsLatticeVector lattice (centring_at lattice i)
+centring-lattice lattice i l = record {
+  centring = i;
+  listed = l;
+  edges = zero_vector whole;
+  is = same_vector _ _ (omega (arith, ints)) (omega (arith, ints)) (omega (arith, ints));
 }
 
 pub sum-lattice : (lattice : Lattice) (s t : Vector ℤ) → IsLatticeVector lattice s → IsLatticeVector lattice t → IsLatticeVector lattice (vector_sum whole s t)

@@ -67,4 +67,3 @@ HasRows rot = rot ≡ rows_of (matrix_of rot)
 pub record IsLeastOp (lattice : Lattice) (g : Seitz ℤ) (op : Op) : Type 0 where
   pub rotation : (seitz_of op).rot ≡ g.rot
   pub translation : IsLeastShift lattice g.shift (seitz_of op).shift
-  pub shaped : IsShaped op

@@ -8,7 +8,7 @@ ghost use Rattle.space_ops.specs.Seitz.{seitz_product};
 ghost use Rattle.space_ops.specs.Op.{seitz_of, matrix_of, vector_of, identity_op, IsSmallMatrix};
 ghost use Rattle.space_ops.specs.Words.{op_at, HasTooManyRotations};
 ghost use Rattle.space_ops.specs.WordLaws.{AreUnimodular};
-ghost use Rattle.space_ops.specs.LeastShift.{IsInCell, IsLeastOp};
+ghost use Rattle.space_ops.specs.LeastShift.{IsInCell, IsLeastOp, IsShaped};
 ghost use Rattle.space_ops.specs.Closing.{IsClosing, IsHolding, IsPastLimits};
 
 use crate::find::{is_same_shift, is_small, place_of};
@@ -41,7 +41,8 @@ fn least_product(op: Op, step: Op, lattice: Lattice) -> Op
     requires left_cell { IsInCell (vector_of op.shift) }
     requires right { IsSmallMatrix (matrix_of step.rot) }
     requires right_cell { IsInCell (vector_of step.shift) }
-    ensures { IsLeastOp lattice (seitz_product whole (seitz_of op) (seitz_of step)) result }
+    ensures least { IsLeastOp lattice (seitz_product whole (seitz_of op) (seitz_of step)) result }
+    ensures shaped { IsShaped result }
 {
     least_op(op.compose(step), lattice)
 }

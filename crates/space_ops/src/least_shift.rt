@@ -5,7 +5,7 @@ ghost use Rattle.std.specs.Ordering.{int_cmp};
 ghost use Rattle.std.specs.Cmp.Lexicographic.{slice_cmp};
 ghost use Rattle.space_ops.specs.Op.{number_at, vector_of, shift_of, seitz_of, IsWithin, IsShiftWithin};
 ghost use Rattle.space_ops.specs.Lattice.{centrings_of};
-ghost use Rattle.space_ops.specs.LeastShift.{IsLeastOp, HasRows, IsFirstOfReduced, IsLeastArray, earlier_of, reduced_sum as sum_reduced};
+ghost use Rattle.space_ops.specs.LeastShift.{IsLeastOp, HasRows, IsShaped, IsFirstOfReduced, IsLeastArray, earlier_of, reduced_sum as sum_reduced};
 
 use crate::lattice::Lattice;
 use crate::op::{Op, TWELFTHS};
@@ -66,9 +66,10 @@ pub fn least_shift(t: [i32; 3], lattice: Lattice) -> [i32; 3]
 
 /// The operation with its least translation.
 pub fn least_op(op: Op, lattice: Lattice) -> Op
-    requires near { IsShiftWithin 60000000 op.shift }
-    requires shaped { HasRows op.rot }
-    ensures { IsLeastOp lattice (seitz_of op) result }
+    requires { IsShiftWithin 60000000 op.shift }
+    ensures least { IsLeastOp lattice (seitz_of op) result }
+    ensures shaped { HasRows op.rot → IsShaped result }
+    ensures rot { result.rot ≡ op.rot }
 {
     let rot = op.rot;
     let shift = least_shift(op.shift, lattice);

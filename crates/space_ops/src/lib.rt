@@ -7,12 +7,14 @@
 mod closing;
 mod find;
 mod group;
+mod keeping;
 mod lattice;
 mod least_shift;
 mod op;
 mod op_text;
 mod rotation;
 mod shift;
+mod steps;
 
 pub use group::GroupError;
 pub use lattice::Lattice;

@@ -33,7 +33,7 @@ returns-in-Err-clause-many c e =
     let k = c.loop-step.step-index in
     let l : c.args.next < length H = omega (arith, c.requires.place, c.loop-step.invariant.grown) in
     many c.args.steps.now c.args.lattice H c.loop-step.conflicts c.args.next k c.least_product-product.result c.loop-step.invariant.closing l c.loop-step-test.true
-    (formed H _ c.args.steps.now c.args.next k c.op_in.result c.least_product-product.result _ c.args.lattice c.deref.ensures.value c.op_in.ensures c.loop-step-test.true c.least_product-product.ensures)
+    (formed H _ c.args.steps.now c.args.next k c.op_in.result c.least_product-product.result _ c.args.lattice c.deref.ensures.value c.op_in.ensures c.loop-step-test.true c.least_product-product.ensures.least)
     (c.in-Err.ensures.many e)
 
 pub loop-step-preserved : goal.loop-step-preserved
@@ -44,8 +44,8 @@ loop-step-preserved c =
     let m =
     next c.args.steps.now c.args.lattice c.requires.unimodular H c.hold.new.held.items c.loop-step.conflicts c.in-Ok.differs c.either-conflicts.result c.args.next k c.least_product-product.result
     c.either-conflicts.ensures.no c.either-conflicts.ensures.yes c.loop-step.invariant.closing l c.loop-step-test.true
-    (formed H _ c.args.steps.now c.args.next k c.op_in.result c.least_product-product.result _ c.args.lattice c.deref.ensures.value c.op_in.ensures c.loop-step-test.true c.least_product-product.ensures)
-    c.in-Ok.ensures.ok in
+    (formed H _ c.args.steps.now c.args.next k c.op_in.result c.least_product-product.result _ c.args.lattice c.deref.ensures.value c.op_in.ensures c.loop-step-test.true c.least_product-product.ensures.least)
+    c.least_product-product.ensures.shaped c.in-Ok.ensures.ok in
     record { closing = m.0; grown = omega (arith, m.1, c.loop-step.invariant.grown) }
 
 pub returns-clause-ok : goal.returns-clause-ok
