@@ -10,8 +10,9 @@ use Rattle.space_ops.specs.Op.{seitz_of, identity_op, IsSmallMatrix}
 use Rattle.space_ops.specs.Words.{op_at, vector_difference, IsLatticeVector, IsSameUpToLattice, IsWord, HasTooManyRotations, HasExtraTranslation}
 use Rattle.space_ops.specs.WordLaws.{AreUnimodular, word-identity, word-step, word-product, word-same, extra-from_difference}
 use Rattle.space_ops.specs.LeastShift.{IsShaped, IsLeastShift, IsLeastOp}
-use Rattle.space_ops.specs.LeastShiftLaws.{differ-sym, least-unique, least-itself}
+use Rattle.space_ops.specs.LeastShiftLaws.{least-unique, least-itself}
 use Rattle.space_ops.specs.Closing.{AreHeld, IsMet, IsClosing, IsNew, IsFound, IsAdded, IsHolding, IsPastLimits}
+use Rattle.space_ops.specs.LatticeLaws.{differ-sym}
 
 pub op_old : (H : List Op) (x : Op) (i : ℕ) → i < length H → get_or (H ++ x ∷ []) i identity_op ≡ get_or H i identity_op
 op_old H x i l = get_or_append_left H (x ∷ []) identity_op i l

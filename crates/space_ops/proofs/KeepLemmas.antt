@@ -11,7 +11,8 @@ use Rattle.space_ops.specs.Matrix.{Vector, zero_vector}
 use Rattle.space_ops.specs.MatrixLaws.{same_vector}
 use Rattle.space_ops.specs.Words.{vector_difference, IsLatticeVector}
 use Rattle.space_ops.specs.LeastShift.{vector_cmp, IsInCell, IsLeastShift}
-use Rattle.space_ops.specs.LeastShiftLaws.{differ-sym, differ-refl, least-unique}
+use Rattle.space_ops.specs.LeastShiftLaws.{least-unique}
+use Rattle.space_ops.specs.LatticeLaws.{differ-sym, differ-refl}
 
 then_not_greater : (o p : Ordering) → (o ≡ Greater → ⊥) → (p ≡ Greater → ⊥) → ordering_then o p ≡ Greater → ⊥
 then_not_greater Less p f g e = let k : Less ≡ Greater = e in cc

@@ -12,10 +12,10 @@ use Rattle.space_ops.specs.OpLaws.{inverse_unimodular}
 use Rattle.space_ops.specs.Words.{op_at, IsSameUpToLattice, IsWord, HasTooManyRotations}
 use Rattle.space_ops.specs.WordLaws.{word-step, word-same}
 use Rattle.space_ops.specs.LeastShift.{IsInCell, IsTwelfth, IsLeastOp}
-use Rattle.space_ops.specs.LeastShiftLaws.{differ-sym}
 use Rattle.space_ops.specs.Group.{AreGenerators, IsListed}
 use Rattle.space_ops.specs.Closing.{AreStepOps, AddsSteps}
 use Rattle.space_ops.proofs.ClosingLemmas.{each-more, op_old, op_new, length_more}
+use Rattle.space_ops.specs.LatticeLaws.{differ-sym}
 
 twelfth_within : (x : ℤ) → IsTwelfth x → IsWithin 1000000 x
 twelfth_within x h = (omega (arith, ints, h.0), omega (arith, ints, h.1))

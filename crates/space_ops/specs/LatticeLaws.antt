@@ -3,6 +3,7 @@
 -- zero-lattice, sum-lattice, minus-lattice, difference-lattice: the zero vector, sums, negatives and differences
 -- centring-lattice: centring vectors
 -- edges-lattice: a lattice vector and whole cell edges
+-- differ-refl, differ-sym, differ-trans: translations that differ by a lattice vector
 -- image-lattice: images under a matrix that keeps the centring vectors
 use Rattle.std.proofs.Common.{◌≡◌, refl, sym, ap, ◌∙◌, subst, ℕ, zero, suc, ◌<◌, ℤ, pos, negsuc, length, arith}
 use Rattle.std.proofs.lemmas.Int.{ints}
@@ -143,3 +144,22 @@ image-lattice lattice r t keep h =
     let c = centring_at lattice h.centring in
     subst (IsLatticeVector lattice) (sym (ap (image_under whole r) h.is ∙ image_under-sum whole whole_ring r (pos 12) c h.edges))
     (edges-lattice lattice (image_under whole r c) (image_under whole r h.edges) (keep h.centring h.listed))
+
+difference_step : (r s t : Vector ℤ) → vector_sum whole (vector_difference r s) (vector_difference s t) ≡ vector_difference r t
+difference_step r s t = same_vector _ _ (omega (arith, ints)) (omega (arith, ints)) (omega (arith, ints))
+
+minus_difference : (s t : Vector ℤ) → minus_vector whole (vector_difference s t) ≡ vector_difference t s
+minus_difference s t = same_vector _ _ (omega (arith, ints)) (omega (arith, ints)) (omega (arith, ints))
+
+zero_difference : (t : Vector ℤ) → zero_vector whole ≡ vector_difference t t
+zero_difference t = same_vector _ _ (omega (arith, ints)) (omega (arith, ints)) (omega (arith, ints))
+
+-- differences by lattice vectors compose, turn round, and hold of each translation and itself
+pub differ-trans : (lattice : Lattice) (r s t : Vector ℤ) → IsLatticeVector lattice (vector_difference r s) → IsLatticeVector lattice (vector_difference s t) → IsLatticeVector lattice (vector_difference r t)
+differ-trans lattice r s t h k = subst (IsLatticeVector lattice) (difference_step r s t) (sum-lattice lattice (vector_difference r s) (vector_difference s t) h k)
+
+pub differ-sym : (lattice : Lattice) (s t : Vector ℤ) → IsLatticeVector lattice (vector_difference s t) → IsLatticeVector lattice (vector_difference t s)
+differ-sym lattice s t h = subst (IsLatticeVector lattice) (minus_difference s t) (minus-lattice lattice (vector_difference s t) h)
+
+pub differ-refl : (lattice : Lattice) (t : Vector ℤ) → IsLatticeVector lattice (vector_difference t t)
+differ-refl lattice t = subst (IsLatticeVector lattice) (zero_difference t) (zero-lattice lattice)

@@ -19,7 +19,7 @@ use Rattle.space_ops.specs.Matrix.{Vector, vector_sum, minus_vector, zero_vector
 use Rattle.space_ops.specs.MatrixLaws.{same_vector}
 use Rattle.space_ops.specs.Op.{shift_of}
 use Rattle.space_ops.specs.Words.{cell_edges, vector_difference, IsLatticeVector}
-use Rattle.space_ops.specs.LatticeLaws.{zero-lattice, minus-lattice, sum-lattice}
+use Rattle.space_ops.specs.LatticeLaws.{differ-refl, differ-sym, differ-trans}
 use Rattle.space_ops.specs.LeastShift.{vector_cmp, IsTwelfth, IsInCell, IsLeastShift}
 
 pub vector_cmp-total : IsTotalOrder vector_cmp
@@ -50,25 +50,6 @@ not_greater v w f g = by_order (vector_cmp v w) refl where
   by_order Less e = absurd (g (vector_cmp-total.antisymm w v ∙ ap ordering_reverse (sym e)))
   by_order Equal e = vector_cmp-equal v w (sym e)
   by_order Greater e = absurd (f (sym e))
-
-difference_step : (r s t : Vector ℤ) → vector_sum whole (vector_difference r s) (vector_difference s t) ≡ vector_difference r t
-difference_step r s t = same_vector _ _ (omega (arith, ints)) (omega (arith, ints)) (omega (arith, ints))
-
-minus_difference : (s t : Vector ℤ) → minus_vector whole (vector_difference s t) ≡ vector_difference t s
-minus_difference s t = same_vector _ _ (omega (arith, ints)) (omega (arith, ints)) (omega (arith, ints))
-
-zero_difference : (t : Vector ℤ) → zero_vector whole ≡ vector_difference t t
-zero_difference t = same_vector _ _ (omega (arith, ints)) (omega (arith, ints)) (omega (arith, ints))
-
--- differences by lattice vectors compose, turn round, and hold of each translation and itself
-pub differ-trans : (lattice : Lattice) (r s t : Vector ℤ) → IsLatticeVector lattice (vector_difference r s) → IsLatticeVector lattice (vector_difference s t) → IsLatticeVector lattice (vector_difference r t)
-differ-trans lattice r s t h k = subst (IsLatticeVector lattice) (difference_step r s t) (sum-lattice lattice (vector_difference r s) (vector_difference s t) h k)
-
-pub differ-sym : (lattice : Lattice) (s t : Vector ℤ) → IsLatticeVector lattice (vector_difference s t) → IsLatticeVector lattice (vector_difference t s)
-differ-sym lattice s t h = subst (IsLatticeVector lattice) (minus_difference s t) (minus-lattice lattice (vector_difference s t) h)
-
-pub differ-refl : (lattice : Lattice) (t : Vector ℤ) → IsLatticeVector lattice (vector_difference t t)
-differ-refl lattice t = subst (IsLatticeVector lattice) (zero_difference t) (zero-lattice lattice)
 
 pub least-unique : (lattice : Lattice) (t t' r r' : Vector ℤ) → IsLeastShift lattice t r → IsLeastShift lattice t' r' → IsLatticeVector lattice (vector_difference t t') → r ≡ r'
 least-unique lattice t t' r r' a b h =

@@ -3,7 +3,7 @@
 -- same_matrix, same_vector: equal where their entries are
 -- matrix_times-assoc, matrix_times-unit, unit-matrix_times: matrices are a monoid
 -- matrix_times-adjugate, adjugate-matrix_times, determinant-matrix_times: adjugate and determinant
--- image_under-product, image_under-minus, image_under-zero, zero-image_under, image_under-sum: images of columns
+-- image_under-product, image_under-minus, image_under-zero, zero-image_under, image_under-sum, image_under-difference: images of columns
 -- less_itself, minus_and_itself, scaled-one, square_of_product: small equations
 use Rattle.std.proofs.Common.{◌≡◌, ℕ, refl, [], ◌∷◌, true}
 use Rattle.space_ops.specs.Ring.{Ops, IsRing}
@@ -103,3 +103,6 @@ module _ {A : Type 0} (o : Ops A) (r : IsRing o) where
       solve_vector (env (o.num 0) a a a s (record { x = c; y = c; z = c }) u)
       (image_under exps va (vector_sum exps ts (record { x = Mul (V 30) (V 33); y = Mul (V 30) (V 34); z = Mul (V 30) (V 35) })))
       (vector_sum exps (image_under exps va ts) (record { x = Mul (V 30) v.x; y = Mul (V 30) v.y; z = Mul (V 30) v.z })) refl refl refl
+
+  pub image_under-difference : (a : Matrix A) (s t : Vector A) → image_under o a (vector_sum o s (minus_vector o t)) ≡ vector_sum o (image_under o a s) (minus_vector o (image_under o a t))
+  image_under-difference a s t = solve_vector (env (o.num 0) a a a s t t) (image_under exps va (vector_sum exps ts (minus_vector exps tt'))) (vector_sum exps (image_under exps va ts) (minus_vector exps (image_under exps va tt'))) refl refl refl

@@ -2,6 +2,7 @@
 --
 -- AreUnimodular gens: each generator's determinant is 1 or -1
 -- word-identity, word-step, word-product: the identity, steps and products of words are words
+-- same-refl, same-sym, same-trans, same-right, same-left, same-translation: one up to a lattice translation
 -- word-same: a lattice translation after a word is a word
 -- word-opposite, word-inverse: each word has an inverse that is a word
 -- word-difference: two words of one rotation differ by a pure translation that is a word
@@ -14,12 +15,12 @@ use Rattle.space_ops.specs.declared.lattice.Lattice.{Lattice}
 use Rattle.space_ops.specs.Whole.{whole}
 use Rattle.space_ops.specs.WholeLaws.{whole_ring}
 use Rattle.space_ops.specs.Matrix.{Matrix, Vector, matrix_times, image_under, vector_sum, minus_vector, zero_vector, unit_matrix}
-use Rattle.space_ops.specs.MatrixLaws.{same_vector, matrix_times-unit, unit-matrix_times}
+use Rattle.space_ops.specs.MatrixLaws.{same_vector, matrix_times-unit, unit-matrix_times, image_under-difference}
 use Rattle.space_ops.specs.Seitz.{Seitz, seitz_product, seitz_inverse, seitz_identity}
 use Rattle.space_ops.specs.Op.{IsUnimodular}
 use Rattle.space_ops.specs.OpLaws.{same_seitz, seitz-back, back-seitz, seitz_product-assoc, seitz_product-identity, identity-seitz_product}
-use Rattle.space_ops.specs.Words.{op_at, IsLatticeVector, IsSameUpToLattice, vector_difference, IsStep, AreSteps, word_value, IsWord, HasExtraTranslation}
-use Rattle.space_ops.specs.LatticeLaws.{minus-lattice}
+use Rattle.space_ops.specs.Words.{op_at, IsLatticeVector, IsLatticeTranslation, IsSameUpToLattice, vector_difference, IsStep, AreSteps, word_value, IsWord, HasExtraTranslation}
+use Rattle.space_ops.specs.LatticeLaws.{minus-lattice, differ-refl, differ-sym, differ-trans}
 
 abbrev pub AreUnimodular : List Op → Type 0
 AreUnimodular gens = (i : ℕ) → i < length gens → IsUnimodular (op_at gens i).rot
@@ -57,6 +58,52 @@ middle_left t a b e =
     let q : (vector_sum whole t b).y ≡ pos 0 = ap (λ (v : Vector ℤ). v.y) e in
     let r : (vector_sum whole t b).z ≡ pos 0 = ap (λ (v : Vector ℤ). v.z) e in
     same_vector _ _ (omega (arith, ints, p)) (omega (arith, ints, q)) (omega (arith, ints, r))
+
+-- one up to a lattice translation: a relation that products keep
+pub same-refl : (lattice : Lattice) (g : Seitz ℤ) → IsSameUpToLattice lattice g g
+same-refl lattice g = record { rotation = refl; translation = differ-refl lattice g.shift }
+
+pub same-sym : (lattice : Lattice) (g h : Seitz ℤ) → IsSameUpToLattice lattice g h → IsSameUpToLattice lattice h g
+same-sym lattice g h a = record { rotation = sym a.rotation; translation = differ-sym lattice g.shift h.shift a.translation }
+
+pub same-trans : (lattice : Lattice) (g h k : Seitz ℤ) → IsSameUpToLattice lattice g h → IsSameUpToLattice lattice h k → IsSameUpToLattice lattice g k
+same-trans lattice g h k a b = record { rotation = a.rotation ∙ b.rotation; translation = differ-trans lattice g.shift h.shift k.shift a.translation b.translation }
+
+less_same : (s t v : Vector ℤ) → vector_difference (vector_sum whole s v) (vector_sum whole t v) ≡ vector_difference s t
+less_same s t v = same_vector _ _ (omega (arith, ints)) (omega (arith, ints)) (omega (arith, ints))
+
+same_less : (t v w : Vector ℤ) → vector_difference (vector_sum whole t v) (vector_sum whole t w) ≡ vector_difference v w
+same_less t v w = same_vector _ _ (omega (arith, ints)) (omega (arith, ints)) (omega (arith, ints))
+
+more_less : (t v : Vector ℤ) → vector_difference (vector_sum whole t v) t ≡ v
+more_less t v = same_vector _ _ (omega (arith, ints)) (omega (arith, ints)) (omega (arith, ints))
+
+-- after two such operations, one step
+pub same-right : (lattice : Lattice) (g h s : Seitz ℤ) → IsSameUpToLattice lattice g h → IsSameUpToLattice lattice (seitz_product whole g s) (seitz_product whole h s)
+same-right lattice g h s a = record {
+  rotation = ap (λ r. matrix_times whole r s.rot) a.rotation;
+  translation = subst (IsLatticeVector lattice)
+      (sym (ap (λ r. vector_difference (vector_sum whole g.shift (image_under whole r s.shift)) (vector_sum whole h.shift (image_under whole h.rot s.shift))) a.rotation ∙ less_same g.shift h.shift (image_under whole h.rot s.shift)))
+      a.translation;
+}
+
+-- after one operation that keeps the lattice, two such steps
+pub same-left : (lattice : Lattice) (g s s' : Seitz ℤ) → ((v : Vector ℤ) → IsLatticeVector lattice v → IsLatticeVector lattice (image_under whole g.rot v))
+    → IsSameUpToLattice lattice s s' → IsSameUpToLattice lattice (seitz_product whole g s) (seitz_product whole g s')
+same-left lattice g s s' keep a = record {
+  rotation = ap (matrix_times whole g.rot) a.rotation;
+  translation = subst (IsLatticeVector lattice)
+      (image_under-difference whole whole_ring g.rot s.shift s'.shift ∙ sym (same_less g.shift (image_under whole g.rot s.shift) (image_under whole g.rot s'.shift)))
+      (keep (vector_difference s.shift s'.shift) a.translation);
+}
+
+-- a lattice translation before an operation that keeps the lattice
+pub same-translation : (lattice : Lattice) (g s : Seitz ℤ) → ((v : Vector ℤ) → IsLatticeVector lattice v → IsLatticeVector lattice (image_under whole g.rot v))
+    → IsLatticeTranslation lattice s → IsSameUpToLattice lattice (seitz_product whole g s) g
+same-translation lattice g s keep a = record {
+  rotation = ap (matrix_times whole g.rot) a.0 ∙ matrix_times-unit whole whole_ring g.rot;
+  translation = subst (IsLatticeVector lattice) (sym (more_less g.shift (image_under whole g.rot s.shift))) (keep s.shift a.1);
+}
 
 module _ (gens : List Op) (lattice : Lattice) where
   steps-append : (v w : List (Seitz ℤ)) → AreSteps gens lattice v → AreSteps gens lattice w → AreSteps gens lattice (v ++ w)
