@@ -3,6 +3,8 @@ use Rattle.std.proofs.Common.{◌≡◌, refl, sym, ap, ◌∙◌, subst, ℕ, z
 use Rattle.std.proofs.lemmas.Int.{ints}
 use Rattle.space_ops.specs.declared.op.Op.{Op}
 use Rattle.space_ops.specs.declared.lattice.Lattice.{Lattice}
+use Rattle.space_ops.specs.declared.group.GroupError.{GroupError}
+use Rattle.space_ops.specs.declared.group.GroupError.TheVariants.{TooManyRotations, ExtraTranslation, NoMemory}
 use Rattle.space_ops.specs.Whole.{whole}
 use Rattle.space_ops.specs.WholeLaws.{whole_ring}
 use Rattle.space_ops.specs.Matrix.{Matrix, Vector, matrix_times, image_under, vector_sum}
@@ -13,7 +15,7 @@ use Rattle.space_ops.specs.OpLaws.{seitz_product-assoc, seitz_product-identity, 
 use Rattle.space_ops.specs.Words.{op_at, vector_difference, IsLatticeVector, IsSameUpToLattice, IsStep, AreSteps, word_value, IsWord, HasTooManyRotations, HasExtraTranslation}
 use Rattle.space_ops.specs.LatticeLaws.{sum-lattice, differ-trans, differ-refl}
 use Rattle.space_ops.specs.WordLaws.{AreUnimodular, same-refl, same-trans, same-right, same-left, same-translation, word-over_words, extra-from_image}
-use Rattle.space_ops.specs.Group.{AreGenerators, IsListed}
+use Rattle.space_ops.specs.Group.{IsListed, IsCauseOf}
 use Rattle.space_ops.specs.Closing.{AreStepOps, AreHeld, IsMet, IsClosing, KeepsLattice, LosesLattice, IsClosedList}
 use Rattle.space_ops.proofs.Pigeonhole.{pigeonhole}
 
@@ -33,6 +35,27 @@ no_more_rotations G L H few small all (inr m) =
     let w = m.is_word in
     let h = all w.element w.is_word in
     m.not_small (subst IsSmallMatrix (sym h.2 ∙ w.rotation) (small h.0 h.1))
+
+-- too many rotations of words over the steps
+pub many-over : (G : List Op) (L : Lattice) (S : List Op) → AreUnimodular G → AreStepOps G L (length G) S → HasTooManyRotations S L → HasTooManyRotations G L
+many-over G L S u steps (inl m) = inl (record {
+  number = m.number;
+  are_words = λ i l. let w = m.are_words i l in
+      record { element = w.element; is_word = word-over_words G L u S steps.are_words steps.unimodular w.element w.is_word; rotation = w.rotation };
+  apart = m.apart;
+})
+many-over G L S u steps (inr m) = let w = m.is_word in inr (record {
+  large = m.large;
+  is_word = record { element = w.element; is_word = word-over_words G L u S steps.are_words steps.unimodular w.element w.is_word; rotation = w.rotation };
+  not_small = m.not_small;
+})
+
+-- the cause of an error that closing under the steps gives
+pub cause-over : (G : List Op) (L : Lattice) (S : List Op) (error : GroupError) → AreUnimodular G → AreStepOps G L (length G) S
+    → (error ≡ TooManyRotations → HasTooManyRotations S L) → (error ≡ ExtraTranslation → ⊥) → IsCauseOf G L error
+cause-over G L S TooManyRotations u steps f g = many-over G L S u steps (f refl)
+cause-over G L S ExtraTranslation u steps f g = absurd (g refl)
+cause-over G L S NoMemory u steps f g = tt
 
 module _ (G : List Op) (L : Lattice) (S H : List Op) (steps : AreStepOps G L (length G) S) (c : Bool) (h : IsClosing S L H c (length H) 0) where
   -- the rotation of a held one times a step

@@ -1,12 +1,14 @@
 -- Steps of the closing loop.
-use Rattle.std.proofs.Common.{◌≡◌, refl, sym, ap, ◌∙◌, subst, ℕ, zero, suc, ◌+◌, ◌<◌, ◌≤◌, ◌⊎◌, inl, inr, Bool, true, false, ℤ, List, [], ◌∷◌, ◌++◌, length, get_or, arith, length-append, below_more}
+use Rattle.std.proofs.Common.{◌≡◌, refl, sym, ap, ◌∙◌, subst, ℕ, zero, suc, ◌+◌, ◌<◌, ◌≤◌, ◌⊎◌, inl, inr, Bool, true, false, ℤ, pos, List, [], ◌∷◌, ◌++◌, length, get_or, arith, length-append, below_more}
+use Rattle.std.proofs.lemmas.Int.{ints}
 use Rattle.std.proofs.lemmas.List.{get_or_append_left, get_or_push}
+use Rattle.space_ops.proofs.KeepLemmas.{zero_least}
 use Rattle.space_ops.specs.declared.op.Op.{Op}
 use Rattle.space_ops.specs.declared.lattice.Lattice.{Lattice}
 use Rattle.space_ops.specs.Whole.{whole}
 use Rattle.space_ops.specs.Matrix.{Matrix}
 use Rattle.space_ops.specs.Seitz.{Seitz, seitz_product, seitz_identity}
-use Rattle.space_ops.specs.Op.{seitz_of, identity_op, IsSmallMatrix}
+use Rattle.space_ops.specs.Op.{seitz_of, identity_op, IsWithin, IsSmallMatrix}
 use Rattle.space_ops.specs.Words.{op_at, vector_difference, IsLatticeVector, IsSameUpToLattice, IsWord, HasTooManyRotations, HasExtraTranslation}
 use Rattle.space_ops.specs.WordLaws.{AreUnimodular, word-identity, word-step, word-product, word-same, extra-from_difference}
 use Rattle.space_ops.specs.LeastShift.{IsShaped, IsLeastShift, IsLeastOp}
@@ -192,3 +194,13 @@ module _ (S : List Op) (L : Lattice) where
   } where
     one : (P : Op → Type 0) → P x → (i : ℕ) → i < 1 → P (get_or (x ∷ []) i identity_op)
     one P p i l = let z : i ≡ 0 = omega arith in subst (λ i. P (get_or (x ∷ []) i identity_op)) (sym z) p
+
+zero_within : IsWithin 3 (pos 0)
+zero_within = (omega (arith, ints), omega (arith, ints))
+
+one_within : IsWithin 3 (pos 1)
+one_within = (omega (arith, ints), omega (arith, ints))
+
+pub identity-start : (S : List Op) (L : Lattice) → IsClosing S L (identity_op ∷ []) false 0 0
+identity-start S L =
+    start S L identity_op refl refl ((one_within, zero_within, zero_within), (zero_within, one_within, zero_within), (zero_within, zero_within, one_within)) (zero_least L)

@@ -24,7 +24,7 @@ zero_not_after (pos zero) l e = let k : Equal ≡ int_cmp (pos 0) (pos 0) = int_
 zero_not_after (pos (suc a)) l e = let k : Less ≡ int_cmp (pos 0) (pos (suc a)) = int_cmp_is (pos 0) (pos (suc a)) Less (omega (arith, ints)) in cc
 zero_not_after (negsuc a) l e = absurd (omega (arith, ints, l))
 
-zero_least : (L : Lattice) → IsLeastShift L (zero_vector whole) (zero_vector whole)
+pub zero_least : (L : Lattice) → IsLeastShift L (zero_vector whole) (zero_vector whole)
 zero_least L = record {
   in_cell = ((omega (arith, ints), omega (arith, ints)), (omega (arith, ints), omega (arith, ints)), (omega (arith, ints), omega (arith, ints)));
   same = differ-refl L (zero_vector whole);

@@ -8,3 +8,4 @@ pub mod StepLemmas
 pub mod KeepLemmas
 pub mod Pigeonhole
 pub mod ClosedLemmas
+pub mod OrderLemmas

@@ -8,8 +8,6 @@
 -- IsParentGroup p: p lists the group of its generators and its lattice, of at most 48 small rotations
 -- IsCauseOf gens lattice error: when the group isn't listed
 use Rattle.std.specs.Prelude.{◌≡◌, ℕ, ◌<◌, ◌≤◌, ⊤, ℤ, List, length, slice_index_or}
-use Rattle.std.specs.Ordering.{int_cmp}
-use Rattle.std.specs.Cmp.Lexicographic.{slice_cmp}
 use Rattle.std.specs.declared.cmp.Ordering.{Ordering}
 use Rattle.std.specs.declared.cmp.Ordering.TheVariants.{Less, Greater}
 use Rattle.space_ops.specs.declared.op.Op.{Op}
@@ -21,6 +19,7 @@ use Rattle.space_ops.specs.Matrix.{Matrix}
 use Rattle.space_ops.specs.Seitz.{Seitz, seitz_identity}
 use Rattle.space_ops.specs.Op.{identity_op, rows_of, IsSmallMatrix, IsUnimodular}
 use Rattle.space_ops.specs.Words.{op_at, IsSameUpToLattice, IsWord, HasTooManyRotations, HasExtraTranslation}
+use Rattle.space_ops.specs.Order.{rows_cmp}
 use Rattle.space_ops.specs.LeastShift.{IsInCell, IsShaped, vector_cmp}
 
 pub record AreGenerators (gens : List Op) : Type 0 where
@@ -30,7 +29,7 @@ pub record AreGenerators (gens : List Op) : Type 0 where
   pub in_cell : (i : ℕ) → i < length gens → IsInCell (op_at gens i).shift
 
 abbrev pub matrix_cmp : Matrix ℤ → Matrix ℤ → Ordering
-matrix_cmp a b = slice_cmp (slice_cmp int_cmp) (rows_of a) (rows_of b)
+matrix_cmp a b = rows_cmp (rows_of a) (rows_of b)
 
 pub record IsListed (lattice : Lattice) (ops : List Op) (g : Seitz ℤ) : Type 0 where
   pub place : ℕ

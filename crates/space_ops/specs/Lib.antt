@@ -17,3 +17,5 @@ pub mod LeastShift
 pub mod LeastShiftLaws
 pub mod Group
 pub mod Closing
+pub mod Order
+pub mod GroupView

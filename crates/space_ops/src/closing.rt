@@ -9,13 +9,16 @@ ghost use Rattle.space_ops.specs.Op.{seitz_of, matrix_of, vector_of, identity_op
 ghost use Rattle.space_ops.specs.Words.{op_at, HasTooManyRotations};
 ghost use Rattle.space_ops.specs.WordLaws.{AreUnimodular};
 ghost use Rattle.space_ops.specs.LeastShift.{IsInCell, IsLeastOp, IsShaped};
-ghost use Rattle.space_ops.specs.Closing.{IsClosing, IsHolding, IsPastLimits};
+ghost use Rattle.space_ops.specs.Group.{AreGenerators, IsCauseOf};
+ghost use Rattle.space_ops.specs.Closing.{IsClosing, IsClosedList, IsHolding, IsPastLimits};
 
 use crate::find::{is_same_shift, is_small, place_of};
 use crate::group::GroupError;
+use crate::keeping::all_keep_lattice;
 use crate::lattice::Lattice;
 use crate::least_shift::least_op;
 use crate::op::Op;
+use crate::steps::steps_of;
 use std::alloc::Global;
 
 /// The most rotations of a group.
@@ -144,4 +147,19 @@ fn hold_all(held: &mut Vec<Op>, steps: &[Op], lattice: Lattice) -> Result<bool, 
         next += 1;
     }
     Ok(conflicts)
+}
+
+/// The operations of the group, one for each rotation, the identity first.
+pub fn closed_ops(alloc: Global, generators: &[Op], lattice: Lattice) -> Result<Vec<Op>, GroupError>
+    requires { AreGenerators generators.now }
+    ensures ok { IfOk result (λ ops. IsClosedList generators.now lattice ops.items) }
+    ensures err { IfErr result (λ error. IsCauseOf generators.now lattice error) }
+{
+    let steps = steps_of(generators, lattice)?;
+    let mut ops = identity_alone(alloc)?;
+    let conflict = hold_all(&mut ops, steps.as_slice(), lattice)?;
+    if conflict || !all_keep_lattice(&ops, lattice) {
+        return Err(GroupError::ExtraTranslation);
+    }
+    Ok(ops)
 }

@@ -12,10 +12,11 @@ mod lattice;
 mod least_shift;
 mod op;
 mod op_text;
+mod order;
 mod rotation;
 mod shift;
 mod steps;
 
-pub use group::GroupError;
+pub use group::{Group, GroupError};
 pub use lattice::Lattice;
 pub use op::{Op, TWELFTHS};

@@ -9,7 +9,7 @@ use crate::shift::{negative_shift, shift_sum};
 pub const TWELFTHS: i32 = 12;
 
 /// A symmetry operation {R|t}, `x' = R x + t`: the rows of R, and t in twelfths of a cell edge.
-#[derive(Clone, Copy, Debug, Default, PartialEq, Eq)]
+#[derive(Clone, Copy, Debug, Default, PartialEq, Eq, PartialOrd, Ord)]
 pub struct Op {
     pub rot: [[i8; 3]; 3],
     pub shift: [i32; 3],
