@@ -17,24 +17,7 @@ use Rattle.space_ops.specs.LatticeLaws.{sum-lattice, differ-trans, differ-refl}
 use Rattle.space_ops.specs.WordLaws.{AreUnimodular, same-refl, same-trans, same-right, same-left, same-translation, word-over_words, extra-from_image}
 use Rattle.space_ops.specs.Group.{IsListed, IsCauseOf}
 use Rattle.space_ops.specs.Closing.{AreStepOps, AreHeld, IsMet, IsClosing, KeepsLattice, LosesLattice, IsClosedList}
-use Rattle.space_ops.proofs.Pigeonhole.{pigeonhole}
-
-abbrev HasRotation : List Op → Matrix ℤ → Type 0
-HasRotation H r = (j : ℕ) × (j < length H) × (r ≡ (op_at H j).rot)
-
--- at most 48 small rotations that hold those of all words
-pub no_more_rotations : (G : List Op) (L : Lattice) (H : List Op) → length H ≤ 48 → ((i : ℕ) → i < length H → IsSmallMatrix (op_at H i).rot)
-    → ((g : Seitz ℤ) → IsWord G L g → HasRotation H g.rot) → HasTooManyRotations G L → ⊥
-no_more_rotations G L H few small all (inl m) =
-    let at : (i : ℕ) → i ≤ 48 → HasRotation H (m.number i) = λ i l. let w = m.are_words i l in subst (HasRotation H) w.rotation (all w.element w.is_word) in
-    let k : 49 ≤ length H =
-    pigeonhole 49 (length H) (λ i l. (at i (omega arith)).0) (λ i l. (at i (omega arith)).1)
-    (λ i j l k e. m.apart i j (omega arith) (omega arith) ((at i (omega arith)).2 ∙ ap (λ n. (op_at H n).rot) e ∙ sym (at j (omega arith)).2)) in
-    absurd (omega arith)
-no_more_rotations G L H few small all (inr m) =
-    let w = m.is_word in
-    let h = all w.element w.is_word in
-    m.not_small (subst IsSmallMatrix (sym h.2 ∙ w.rotation) (small h.0 h.1))
+use Rattle.space_ops.specs.GroupLaws.{HasRotation, no_more_rotations}
 
 -- too many rotations of words over the steps
 pub many-over : (G : List Op) (L : Lattice) (S : List Op) → AreUnimodular G → AreStepOps G L (length G) S → HasTooManyRotations S L → HasTooManyRotations G L

@@ -6,6 +6,5 @@ pub mod LeastLemmas
 pub mod ClosingLemmas
 pub mod StepLemmas
 pub mod KeepLemmas
-pub mod Pigeonhole
 pub mod ClosedLemmas
 pub mod OrderLemmas

@@ -19,3 +19,5 @@ pub mod Group
 pub mod Closing
 pub mod Order
 pub mod GroupView
+pub mod Pigeonhole
+pub mod GroupLaws

@@ -75,7 +75,7 @@ less_same s t v = same_vector _ _ (omega (arith, ints)) (omega (arith, ints)) (o
 same_less : (t v w : Vector ℤ) → vector_difference (vector_sum whole t v) (vector_sum whole t w) ≡ vector_difference v w
 same_less t v w = same_vector _ _ (omega (arith, ints)) (omega (arith, ints)) (omega (arith, ints))
 
-more_less : (t v : Vector ℤ) → vector_difference (vector_sum whole t v) t ≡ v
+pub more_less : (t v : Vector ℤ) → vector_difference (vector_sum whole t v) t ≡ v
 more_less t v = same_vector _ _ (omega (arith, ints)) (omega (arith, ints)) (omega (arith, ints))
 
 -- after two such operations, one step
