@@ -90,21 +90,21 @@ scaled o c a = record {
 abbrev pub minor : {A : Type 0} → Ops A → A → A → A → A → A
 minor o a b c d = o.add (o.mul a d) (o.neg (o.mul b c))
 
--- the first row times the first column of the adjugate
+-- the first row times the cross product of the others
 abbrev pub determinant : {A : Type 0} → Ops A → Matrix A → A
 determinant o a =
     row_times o a.r00 a.r01 a.r02 (minor o a.r11 a.r12 a.r21 a.r22) (minor o a.r12 a.r10 a.r22 a.r20) (minor o a.r10 a.r11 a.r20 a.r21)
 
--- the transposed matrix of the signed minors
+-- its columns are the cross products of the second and third row, the third and first, the first and second
 abbrev pub adjugate : {A : Type 0} → Ops A → Matrix A → Matrix A
 adjugate o a = record {
   r00 = minor o a.r11 a.r12 a.r21 a.r22;
-  r01 = minor o a.r02 a.r01 a.r22 a.r21;
+  r01 = minor o a.r21 a.r22 a.r01 a.r02;
   r02 = minor o a.r01 a.r02 a.r11 a.r12;
   r10 = minor o a.r12 a.r10 a.r22 a.r20;
-  r11 = minor o a.r00 a.r02 a.r20 a.r22;
+  r11 = minor o a.r22 a.r20 a.r02 a.r00;
   r12 = minor o a.r02 a.r00 a.r12 a.r10;
   r20 = minor o a.r10 a.r11 a.r20 a.r21;
-  r21 = minor o a.r01 a.r00 a.r21 a.r20;
+  r21 = minor o a.r20 a.r21 a.r00 a.r01;
   r22 = minor o a.r00 a.r01 a.r10 a.r11;
 }

@@ -6,11 +6,15 @@
 -- IsWithin n x: x is at most n in absolute value
 -- IsSmallRotation rot: entries from -3 to 3
 -- IsShiftWithin n shift: each coordinate is at most n in absolute value
-use Rattle.std.specs.Prelude.{ℕ, ℤ, pos, ◌+ℤ◌, ◌≤ℤ◌, List, [], ◌∷◌, slice_index_or}
+-- IsSmallMatrix a: the same of a matrix
+-- IsUnimodular a: the determinant of a is 1 or -1
+-- inverse_of op: {R^-1 | -R^-1 t}, where R is unimodular
+-- identity_op: {E|0}
+use Rattle.std.specs.Prelude.{◌≡◌, ℕ, ℤ, pos, ◌+ℤ◌, ◌*ℤ◌, ◌≤ℤ◌, List, [], ◌∷◌, slice_index_or}
 use Rattle.space_ops.specs.declared.op.Op.{Op}
 use Rattle.space_ops.specs.Whole.{whole}
-use Rattle.space_ops.specs.Matrix.{Matrix, Vector, row_times}
-use Rattle.space_ops.specs.Seitz.{Seitz, seitz_product}
+use Rattle.space_ops.specs.Matrix.{Matrix, Vector, row_times, minor, determinant}
+use Rattle.space_ops.specs.Seitz.{Seitz, seitz_product, seitz_inverse, seitz_identity}
 
 abbrev pub number_at : List ℤ → ℕ → ℤ
 number_at row i = slice_index_or row i (pos 0)
@@ -57,6 +61,17 @@ product_row row rot =
     let times = row_times whole (number_at row 0) (number_at row 1) (number_at row 2) in
     times a.r00 a.r10 a.r20 ∷ times a.r01 a.r11 a.r21 ∷ times a.r02 a.r12 a.r22 ∷ []
 
+-- the cross product of two rows
+abbrev pub cross_product : List ℤ → List ℤ → List ℤ
+cross_product a b =
+    let x = number_at a 0 in
+    let y = number_at a 1 in
+    let z = number_at a 2 in
+    let x' = number_at b 0 in
+    let y' = number_at b 1 in
+    let z' = number_at b 2 in
+    minor whole y z y' z' ∷ minor whole z x z' x' ∷ minor whole x y x' y' ∷ []
+
 -- {R|t}{S|s} = {RS | t + R s}
 unfoldable pub product_of : Op → Op → Op
 product_of a b = op_of (seitz_product whole (seitz_of a) (seitz_of b))
@@ -68,5 +83,27 @@ IsWithin n x = (pos 0 ≤ℤ (pos n +ℤ x)) × (x ≤ℤ pos n)
 abbrev pub IsShiftWithin : ℕ → List ℤ → Type 0
 IsShiftWithin n shift = IsWithin n (number_at shift 0) × IsWithin n (number_at shift 1) × IsWithin n (number_at shift 2)
 
+-- each entry is at most n in absolute value
+abbrev pub IsRotationWithin : ℕ → List (List ℤ) → Type 0
+IsRotationWithin n rot = IsShiftWithin n (row_at rot 0) × IsShiftWithin n (row_at rot 1) × IsShiftWithin n (row_at rot 2)
+
+-- each entry is from -3 to 3
+abbrev pub IsSmallMatrix : Matrix ℤ → Type 0
+IsSmallMatrix a =
+    (IsWithin 3 a.r00 × IsWithin 3 a.r01 × IsWithin 3 a.r02) × (IsWithin 3 a.r10 × IsWithin 3 a.r11 × IsWithin 3 a.r12)
+    × (IsWithin 3 a.r20 × IsWithin 3 a.r21 × IsWithin 3 a.r22)
+
 abbrev pub IsSmallRotation : List (List ℤ) → Type 0
-IsSmallRotation rot = IsShiftWithin 3 (row_at rot 0) × IsShiftWithin 3 (row_at rot 1) × IsShiftWithin 3 (row_at rot 2)
+IsSmallRotation rot = IsRotationWithin 3 rot
+
+-- the determinant is 1 or -1
+abbrev pub IsUnimodular : Matrix ℤ → Type 0
+IsUnimodular a = determinant whole a *ℤ determinant whole a ≡ pos 1
+
+-- {R^-1 | -R^-1 t}
+unfoldable pub inverse_of : Op → Op
+inverse_of op = op_of (seitz_inverse whole (seitz_of op))
+
+-- {E|0}
+abbrev pub identity_op : Op
+identity_op = op_of (seitz_identity whole)

@@ -1,0 +1,56 @@
+-- Bounds on the absolute values of whole numbers.
+use Rattle.std.proofs.Common.{◌≡◌, subst, FitsSigned, w8, w32, refl, ◌∙◌, List, ℕ, zero, suc, ◌*◌, ◌≤◌, ap, sym, ℤ, pos, negsuc, ◌*ℤ◌, ◌<ℤ◌, ◌≤ℤ◌, unsigned_abs, arith}
+use Rattle.std.proofs.lemmas.Int.{ints, unsigned_abs-mul, to_z-of_z, fits_signed_from_abs}
+use Rattle.std.proofs.Math.Nat.{mul-le-mul_left, mul-le-mul_right}
+use Rattle.space_ops.proofs.Passed.{passed, passed_long}
+use Rattle.space_ops.specs.Op.{IsWithin, IsShiftWithin, IsRotationWithin, IsSmallRotation, number_at, row_at}
+
+pub abs_of_within : (n : ℕ) (x : ℤ) → IsWithin n x → unsigned_abs x ≤ n
+abs_of_within n (pos k) h = omega (arith, ints)
+abs_of_within n (negsuc k) h = omega (arith, ints)
+
+pub within_of_abs : (n : ℕ) (x : ℤ) → unsigned_abs x ≤ n → IsWithin n x
+within_of_abs n (pos k) h = (omega (arith, ints), omega (arith, ints))
+within_of_abs n (negsuc k) h = (omega (arith, ints), omega (arith, ints))
+
+-- a product is within the product of the bounds
+pub within_product : (m n : ℕ) (a x : ℤ) → IsWithin m a → IsWithin n x → IsWithin (m * n) (a *ℤ x)
+within_product m n a x h k =
+    let p : unsigned_abs a ≤ m = abs_of_within m a h in
+    let q : unsigned_abs x ≤ n = abs_of_within n x k in
+    let e : unsigned_abs (a *ℤ x) ≡ unsigned_abs a * unsigned_abs x = unsigned_abs-mul a x in
+    let f : unsigned_abs a * unsigned_abs x ≤ m * unsigned_abs x = mul-le-mul_right (unsigned_abs x) p in
+    let g : m * unsigned_abs x ≤ m * n = mul-le-mul_left m q in
+    within_of_abs (m * n) (a *ℤ x) (omega arith)
+
+pub within_more : (m n : ℕ) (x : ℤ) → m ≤ n → IsWithin m x → IsWithin n x
+within_more m n x l h = (omega (arith, ints, h.0), omega (arith, ints, h.1))
+
+pub row_more : (m n : ℕ) (row : List ℤ) → m ≤ n → IsShiftWithin m row → IsShiftWithin n row
+row_more m n row l h = (within_more m n (number_at row 0) l h.0, within_more m n (number_at row 1) l h.1, within_more m n (number_at row 2) l h.2)
+
+pub rotation_more : (rot : List (List ℤ)) → IsSmallRotation rot → IsRotationWithin 18 rot
+rotation_more rot h = (row_more 3 18 (row_at rot 0) (omega arith) h.0, row_more 3 18 (row_at rot 1) (omega arith) h.1, row_more 3 18 (row_at rot 2) (omega arith) h.2)
+
+unit_abs : (n : ℕ) → n * n ≡ 1 → n ≡ 1
+unit_abs zero e = absurd (omega (arith, e))
+unit_abs (suc zero) e = refl
+unit_abs (suc (suc n)) e = absurd (omega (arith, e))
+
+-- a number whose square is 1, by its sign
+pub unit_when_negative : (d : ℤ) → d *ℤ d ≡ pos 1 → d <ℤ pos 0 → d ≡ negsuc 0
+unit_when_negative (pos k) e l = absurd (omega (arith, ints, l))
+unit_when_negative (negsuc k) e l = let f : suc k ≡ 1 = unit_abs (suc k) (sym (unsigned_abs-mul (negsuc k) (negsuc k)) ∙ ap unsigned_abs e) in omega (arith, ints, f)
+
+pub unit_when_positive : (d : ℤ) → d *ℤ d ≡ pos 1 → pos 0 ≤ℤ d → d ≡ pos 1
+unit_when_positive (pos k) e l = let f : k ≡ 1 = unit_abs k (sym (unsigned_abs-mul (pos k) (pos k)) ∙ ap unsigned_abs e) in ap pos f
+unit_when_positive (negsuc k) e l = absurd (omega (arith, ints, l))
+
+-- a product that was passed by value is within the product of the bounds
+pub passed_product_within : (a x r : ℤ) → FitsSigned w8 a → FitsSigned w32 x → FitsSigned w32 r → r ≡ passed a → IsWithin 18 a → IsWithin 1000000 x
+    → IsWithin 18000000 (passed_long (passed_long r *ℤ passed_long x))
+passed_product_within a x r f g k e h l =
+    let w : IsWithin 18000000 (a *ℤ x) = within_product 18 1000000 a x h l in
+    let b : unsigned_abs (a *ℤ x) ≤ 18000000 = abs_of_within 18000000 (a *ℤ x) w in
+    let p : passed_long r *ℤ passed_long x ≡ a *ℤ x = (λ i. (to_z-of_z w32 r k ∙ e ∙ to_z-of_z w8 a f) i *ℤ to_z-of_z w32 x g i) in
+    subst (IsWithin 18000000) (sym (ap passed_long p ∙ to_z-of_z w32 (a *ℤ x) (fits_signed_from_abs w32 (a *ℤ x) (omega arith)))) w

@@ -1,0 +1,14 @@
+use Rattle.std.proofs.Common.{sym, subst, ap, ◌∙◌}
+use Rattle.space_ops.specs.declared.op.Op.{Op}
+use Rattle.space_ops.specs.Op.{seitz_of}
+use Rattle.space_ops.specs.OpLaws.{product_of-shaped, seitz_of-product_of}
+use Rattle.space_ops.specs.LeastShift.{HasRows, IsLeastOp}
+use Rattle.space_ops.proofs.closing.least_product.Goals as goal
+
+pub returns-clause-least : goal.returns-clause-least
+returns-clause-least c = subst (λ g. IsLeastOp c.args.lattice g c.least_op.result) (ap seitz_of c.compose.ensures.product ∙ seitz_of-product_of c.args.op c.args.step) c.least_op.ensures.least
+
+pub returns-clause-shaped : goal.returns-clause-shaped
+returns-clause-shaped c =
+    c.least_op.ensures.shaped
+    (subst (λ (o : Op). HasRows o.rot) (sym c.compose.ensures.product) (ap (λ (o : Op). o.rot) (product_of-shaped c.args.op c.args.step)))
