@@ -1,0 +1,12 @@
+pub mod Cases
+pub mod FitLemmas
+pub mod HeadGrammar
+pub mod PartFronts
+pub mod PartListGrammar
+pub mod PartsGrammar
+pub mod PartsLemmas
+pub mod Passed
+pub mod ShiftGrammar
+pub mod SymbolGrammar
+pub mod WordsGrammar
+pub mod WordsLemmas
