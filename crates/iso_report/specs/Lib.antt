@@ -1,3 +1,4 @@
+pub mod Check
 pub mod Action
 pub mod Directions
 pub mod SignRep

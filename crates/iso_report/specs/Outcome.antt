@@ -2,12 +2,22 @@
 --
 -- Finding: a report's bytes, or a refusal
 -- IsOutcome job bytes f: f is what the definitions say
-use Rattle.std.specs.Prelude.{◌≡◌, ◌⊎◌, ℕ, List}
+use Rattle.std.specs.Prelude.{◌≡◌, ◌⊎◌, ℕ, ◌<◌, List, length}
+use Rattle.iso_text.specs.File.{IsFile, HasCause}
+use Rattle.iso_text.specs.FileValue.{File}
+use Rattle.iso_text.specs.Lines.{lines_of}
+use Rattle.iso_text.specs.declared.read_error.ReadError.TheVariants.{BadText}
+use Rattle.hall_symbol.specs.Grammar.{IsHallSymbol}
+use Rattle.space_ops.specs.Group.{Parent, IsParentGroup}
+use Rattle.space_ops.specs.Words.{HasTooManyRotations, HasExtraTranslation}
+use Rattle.space_ops.specs.declared.lattice.Lattice.{Lattice}
+use Rattle.space_ops.specs.declared.op.Op.{Op}
 use Rattle.iso_report.specs.declared.job.Job.{Job}
 use Rattle.iso_report.specs.declared.job.Job.TheVariants as job
 use Rattle.iso_report.specs.declared.refusal.Refusal.{Refusal}
 use Rattle.iso_report.specs.declared.refusal.Refusal.TheVariants as refusal
 use Rattle.iso_report.specs.declared.sign_file.SignFile.{SignFile}
+use Rattle.iso_report.specs.Check.{check_text}
 use Rattle.iso_report.specs.Directions.{Direction, IsListing}
 use Rattle.iso_report.specs.Report.{listing_text}
 use Rattle.iso_report.specs.SignFile.{IsSignFile, operations_of}
@@ -36,6 +46,38 @@ IsListed file f =
     let act = action_of ops file.values.items in
     (ds : List Direction) × IsListing act ds × (f ≡ report (listing_text file.name ops act ds))
 
+-- the parent lists the group of the generators and the lattice
+pub record IsParentOf (gens : List Op) (lattice : Lattice) (parent : Parent) : Type 0 where
+  pub group : IsParentGroup parent
+  pub lattice_is : parent.lattice ≡ lattice
+  pub generators_are : parent.generators ≡ gens
+
+-- the lines are a file, or the first of them that can't go on as one is refused
+abbrev pub AfterText : (File → Finding → Type 0) → List ℕ → Finding → Type 0
+AfterText next bytes f = ((n : ℕ) × HasCause (lines_of bytes) (BadText n) × (f ≡ refused (refusal.BadText n))) ⊎ ((file : File) × IsFile (lines_of bytes) file × next file f)
+
+-- a file with an irrep is beyond what is built
+abbrev pub AfterIrreps : (File → Finding → Type 0) → File → Finding → Type 0
+AfterIrreps next file f = ((0 < length file.irreps) × (f ≡ refused refusal.NotBuilt)) ⊎ ((length file.irreps ≡ 0) × next file f)
+
+-- the text of the `hall` line is a Hall symbol
+abbrev pub AfterHall : (Lattice → List Op → Finding → Type 0) → File → Finding → Type 0
+AfterHall next file f =
+    (((lattice : Lattice) (gens : List Op) → IsHallSymbol file.hall lattice gens → ⊥) × (f ≡ refused (refusal.BadHall file.hall_line)))
+    ⊎ ((lattice : Lattice) × (gens : List Op) × IsHallSymbol file.hall lattice gens × next lattice gens f)
+
+-- the words over the generators and the lattice have few small rotations, and no pure translation outside the lattice
+abbrev pub AfterParent : (Parent → Finding → Type 0) → Lattice → List Op → Finding → Type 0
+AfterParent next lattice gens f =
+    (HasTooManyRotations gens lattice × (f ≡ refused refusal.TooManyRotations))
+    ⊎ (((HasTooManyRotations gens lattice → ⊥) × HasExtraTranslation gens lattice × (f ≡ refused refusal.ExtraTranslation))
+    ⊎ ((HasTooManyRotations gens lattice → ⊥) × (HasExtraTranslation gens lattice → ⊥) × ((parent : Parent) × IsParentOf gens lattice parent × next parent f)))
+
+-- the report of the parent group
+abbrev pub IsChecked : Parent → Finding → Type 0
+IsChecked parent f = f ≡ report (check_text parent)
+
 -- what the definitions say for a job and a file's bytes
 abbrev pub IsOutcome : Job → List ℕ → Finding → Type 0
 IsOutcome job.List bytes f = AfterForm (AfterLaw IsListed) bytes f
+IsOutcome job.Check bytes f = AfterText (AfterIrreps (AfterHall (AfterParent IsChecked))) bytes f

@@ -47,6 +47,10 @@ listing_text name ops act ds = head_lines name act.dim act.group.order (length d
 -- the text of a refusal
 abbrev pub refusal_text : Refusal → List ℕ
 refusal_text refusal.NotBuilt = codes "not built"
+refusal_text (refusal.BadText n) = codes "line " ++ decimal n ++ codes ": bad text"
+refusal_text (refusal.BadHall n) = codes "line " ++ decimal n ++ codes ": bad Hall symbol"
+refusal_text refusal.TooManyRotations = codes "too many rotations"
+refusal_text refusal.ExtraTranslation = codes "extra translation"
 refusal_text (refusal.NotMultiplying name a b) =
     codes "irrep " ++ name ++ codes ": matrices of " ++ text_of a ++ codes " and " ++ text_of b ++ codes " don't multiply"
 

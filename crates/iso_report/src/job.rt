@@ -3,6 +3,8 @@
 /// A command.
 #[derive(Clone, Copy, Debug, PartialEq, Eq)]
 pub enum Job {
+    /// The operations of the parent group.
+    Check,
     /// The isotropy subgroups with their order parameter directions.
     List,
 }

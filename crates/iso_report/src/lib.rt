@@ -4,6 +4,7 @@
 //! is a column; elements are numbered from 0, directions from 1. The layer above uses `run`.
 #![tactic(auto)]
 
+mod check;
 mod direction;
 mod directions;
 mod found;

@@ -1,5 +1,5 @@
 // Why a file is refused, and why a run stops.
-ghost use Rattle.std.specs.Prelude.{◌≡◌, IfOk};
+ghost use Rattle.std.specs.Prelude.{◌≡◌, ◌++◌, IfOk, codes, decimal};
 ghost use Rattle.iso_report.specs.Report.{line_of, refusal_text};
 
 use iso_text::{Name, NoMemory, Text};
@@ -12,6 +12,14 @@ use thiserror::Error;
 pub enum Refusal {
     /// The words or the file are beyond what is built so far.
     NotBuilt,
+    /// The line of this number can't go on as a file.
+    BadText(u32),
+    /// The text of the line of this number is no Hall symbol.
+    BadHall(u32),
+    /// The words of the symbol have more than 48 rotations, or one with an entry outside -3 to 3.
+    TooManyRotations,
+    /// A word of the symbol is a pure translation outside the lattice.
+    ExtraTranslation,
     /// The values of these two operations don't multiply; the first such pair of the irrep.
     NotMultiplying(Name, Op, Op),
 }
@@ -42,16 +50,36 @@ fn not_multiplying_text(alloc: Global, name: &Name, a: Op, b: Op) -> Result<Text
     Ok(text)
 }
 
+// These bytes.
+fn plain_text(alloc: Global, bytes: &[u8]) -> Result<Text, NoMemory>
+    ensures { IfOk result (λ text. text ≡ bytes.now) }
+{
+    let mut text = Text::new(alloc);
+    text.push(bytes)?;
+    Ok(text)
+}
+
+// The number of a line, and what is wrong there.
+fn line_text(alloc: Global, n: u32, what: &[u8]) -> Result<Text, NoMemory>
+    ensures { IfOk result (λ text. text ≡ codes "line " ++ decimal n ++ what.now) }
+{
+    let mut text = Text::new(alloc);
+    text.push(b"line ")?;
+    text.push_number(n as u64)?;
+    text.push(what)?;
+    Ok(text)
+}
+
 // The text of a refusal.
 fn text_of_refusal(alloc: Global, refusal: &Refusal) -> Result<Text, NoMemory>
     ensures { IfOk result (λ text. text ≡ refusal_text refusal.now) }
 {
     match refusal {
-        Refusal::NotBuilt => {
-            let mut text = Text::new(alloc);
-            text.push(b"not built")?;
-            Ok(text)
-        }
+        Refusal::NotBuilt => plain_text(alloc, b"not built"),
+        Refusal::BadText(n) => line_text(alloc, *n, b": bad text"),
+        Refusal::BadHall(n) => line_text(alloc, *n, b": bad Hall symbol"),
+        Refusal::TooManyRotations => plain_text(alloc, b"too many rotations"),
+        Refusal::ExtraTranslation => plain_text(alloc, b"extra translation"),
         Refusal::NotMultiplying(name, a, b) => not_multiplying_text(alloc, name, *a, *b),
     }
 }

@@ -17,7 +17,7 @@ use space_ops::Op;
 use std::alloc::Global;
 
 // The line of an operation.
-fn op_line(alloc: Global, op: Op) -> Result<Text, NoMemory>
+pub fn op_line(alloc: Global, op: Op) -> Result<Text, NoMemory>
     ensures { IfOk result (λ text. text ≡ line (codes "op " ++ text_of op) []) }
 {
     let mut text = Text::new(alloc);

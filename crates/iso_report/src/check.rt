@@ -1,0 +1,79 @@
+// The report of `check`.
+ghost use Rattle.std.specs.Prelude.{◌≡◌, ◌≤◌, ◌*◌, ◌++◌, [], IfOk, OnOk, length, flat_map, codes, decimal};
+ghost use Rattle.space_ops.specs.Lattice.{centrings_of};
+ghost use Rattle.space_ops.specs.OpText.{text_of};
+ghost use Rattle.iso_report.specs.Check.{lattice_letter, lattice_line, listed_line, supercell_line, check_text};
+ghost use Rattle.iso_report.specs.SignFile.{line};
+
+use crate::report::op_line;
+use iso_text::{NoMemory, Text};
+use space_ops::{Group, Lattice};
+use std::alloc::Global;
+
+// The letter of a lattice.
+fn lattice_letter(lattice: Lattice) -> &'static [u8]
+    ensures { result.now ≡ lattice_letter lattice }
+{
+    match lattice {
+        Lattice::P => b"P",
+        Lattice::A => b"A",
+        Lattice::B => b"B",
+        Lattice::C => b"C",
+        Lattice::I => b"I",
+        Lattice::R => b"R",
+        Lattice::F => b"F",
+    }
+}
+
+// The line of the lattice, without its line feed.
+fn lattice_text(alloc: Global, lattice: Lattice, rotations: usize) -> Result<Text, NoMemory>
+    ensures { IfOk result (λ text. text ≡ lattice_line lattice (length (centrings_of lattice)) rotations) }
+{
+    let centrings = lattice.centrings().len();
+    let mut text = Text::new(alloc);
+    text.push(b"lattice ")?;
+    text.push(lattice_letter(lattice))?;
+    text.push(b" centrings ")?;
+    text.push_number(centrings as u64)?;
+    text.push(b" rotations ")?;
+    text.push_number(rotations as u64)?;
+    Ok(text)
+}
+
+// The line of the supercell.
+fn supercell_text(alloc: Global, order: usize) -> Result<Text, NoMemory>
+    ensures { IfOk result (λ text. text ≡ supercell_line order) }
+{
+    let mut text = Text::new(alloc);
+    text.push(b"supercell 1 1 1 order ")?;
+    text.push_number(order as u64)?;
+    text.push(b"\n")?;
+    Ok(text)
+}
+
+// Adds the lines of the listed operations.
+fn push_listed(alloc: Global, text: &mut Text, group: &Group) -> Result<(), NoMemory>
+    ensures { OnOk result (text.new ≡ text.old ++ flat_map listed_line group.now.ops) }
+{
+    for i in 0..group.len() {
+        let added = op_line(alloc, group.op(i))?;
+        text.push(added.as_slice())?;
+    }
+    Ok(())
+}
+
+/// The report of `check` on a parent group: the lattice, the operations, and the supercell.
+pub fn check_report(alloc: Global, group: &Group) -> Result<Text, NoMemory>
+    ensures { IfOk result (λ text. text ≡ check_text group.now) }
+{
+    let lattice = group.lattice();
+    let rotations = group.len();
+    let mut text = Text::new(alloc);
+    text.push(b"isodist 1 check\n")?;
+    text.push(lattice_text(alloc, lattice, rotations)?.as_slice())?;
+    text.push(b"\n")?;
+    push_listed(alloc, &mut text, group)?;
+    let order = rotations * lattice.centrings().len();
+    text.push(supercell_text(alloc, order)?.as_slice())?;
+    Ok(text)
+}
