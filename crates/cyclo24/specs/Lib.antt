@@ -1,2 +1,12 @@
 pub mod FieldOn
 pub mod ExactField
+pub mod Ring
+pub mod Solve
+pub mod WholeRing
+pub mod Gcd
+pub mod GcdLaws
+pub mod Roots
+pub mod Fraction
+pub mod FractionLaws
+pub mod Numerators
+pub mod CommonLaws

@@ -1,0 +1,85 @@
+-- What divides all of a list of whole numbers.
+--
+-- content_of_is: the content of members that are lists of whole numbers obeys the laws of a content
+use Rattle.std.proofs.Common.{◌≡◌, ◌≢◌, ℕ, zero, suc, ◌+◌, ◌*◌, ◌/◌, ◌<◌, ◌≤◌, refl, sym, ap, ◌∙◌, subst, arith, ℤ, pos, negsuc, ◌*ℤ◌, neg_ℤ, List, [], ◌∷◌, map, length}
+use Prim.Native.Nat.{◌∣◌}
+use Rattle.std.specs.Int.RustNames.{unsigned_abs}
+use Rattle.std.proofs.lemmas.Int.{ints, unsigned_abs-mul}
+use Rattle.std.proofs.Math.Nat.{mul-div_cancel', dvd_trans, dvd_refl, pos_of_dvd_of_pos}
+use borrow.Author.Differences.{up, down, product_is, same_in, same_out}
+use Rattle.cyclo24.specs.Ring.{Ops}
+use Rattle.cyclo24.specs.Gcd.{gcd, common, quotient}
+use Rattle.cyclo24.specs.GcdLaws.{gcd_is, gcd_scale}
+use Rattle.cyclo24.specs.Fraction.{Content, IsContent}
+use Rattle.cyclo24.specs.Numerators.{Numerators, IsNumerators, content_of}
+
+mul_left_cancel : (n a b : ℕ) → 0 < n → n * a ≡ n * b → a ≡ b
+mul_left_cancel n a b p e = grind arith
+
+pub cancel_z : (n : ℕ) (x y : ℤ) → 0 < n → pos n *ℤ x ≡ pos n *ℤ y → x ≡ y
+cancel_z n x y p e = same_in x y (mul_left_cancel n (up x + down y) (up y + down x) p (omega (arith, same_out (pos n *ℤ x) (pos n *ℤ y) e, product_is (pos n) x, product_is (pos n) y)))
+
+minus_quotient : (g q n : ℕ) → g * q ≡ suc n → pos g *ℤ neg_ℤ (pos q) ≡ negsuc n
+minus_quotient g zero n e = absurd (omega arith)
+minus_quotient g (suc q) n e = ap (λ k. neg_ℤ (pos k)) e
+
+times-quotient : (g : ℕ) (z : ℤ) → g ∣ unsigned_abs z → pos g *ℤ quotient z g ≡ z
+times-quotient g (pos n) d = ap pos (mul-div_cancel' g d)
+times-quotient g (negsuc n) d = minus_quotient g (suc n / g) n (mul-div_cancel' g d)
+
+pub common-divides : (xs : List ℤ) (d : ℕ) → common xs d ∣ d
+common-divides [] d = dvd_refl d
+common-divides (z ∷ zs) d = dvd_trans (common (z ∷ zs) d) (gcd_is (unsigned_abs z) (common zs d)).1 (common-divides zs d)
+
+common-scale : (k : ℕ) (xs : List ℤ) (d : ℕ) → 0 < k → common (map (λ z. pos k *ℤ z) xs) (k * d) ≡ k * common xs d
+common-scale k [] d p = refl
+common-scale k (z ∷ zs) d p =
+    ap (λ n. gcd n (common (map (λ z. pos k *ℤ z) zs) (k * d))) (unsigned_abs-mul (pos k) z)
+    ∙ ap (λ n. gcd (k * unsigned_abs z) n) (common-scale k zs d p)
+    ∙ gcd_scale k (unsigned_abs z) (common zs d) p
+
+-- what divides the common divisor divides each number
+times-quotients : (g : ℕ) (xs : List ℤ) (d : ℕ) → g ∣ common xs d → map (λ z. pos g *ℤ z) (map (λ z. quotient z g) xs) ≡ xs
+times-quotients g [] d h = refl
+times-quotients g (z ∷ zs) d h =
+    let e = gcd_is (unsigned_abs z) (common zs d) in
+    let head : pos g *ℤ quotient z g ≡ z = times-quotient g z (dvd_trans g h e.0) in
+    let tail : map (λ z. pos g *ℤ z) (map (λ z. quotient z g) zs) ≡ zs = times-quotients g zs d (dvd_trans g h e.1) in
+    λ i. head i ∷ tail i
+
+cancel_all : (d : ℕ) (xs ys : List ℤ) → 0 < d → map (λ z. pos d *ℤ z) xs ≡ map (λ z. pos d *ℤ z) ys → xs ≡ ys
+cancel_all d [] [] p e = refl
+cancel_all d [] (y ∷ ys) p e = absurd (cc)
+cancel_all d (x ∷ xs) [] p e = absurd (cc)
+cancel_all d (x ∷ xs) (y ∷ ys) p e =
+    let head : x ≡ y = cancel_z d x y p (cc) in
+    let tail : xs ≡ ys = cancel_all d xs ys p (cc) in
+    λ i. head i ∷ tail i
+
+map-length : (f : ℤ → ℤ) (xs : List ℤ) → length (map f xs) ≡ length xs
+map-length f [] = refl
+map-length f (x ∷ xs) = omega (arith, map-length f xs)
+
+module _ {R : Type 0} (o : Ops R) (m : Numerators o) (h : IsNumerators o m) where
+  same_list : (x y : R) → m.list x ≡ m.list y → x ≡ y
+  same_list x y e = sym (h.member-list x) ∙ ap m.member e ∙ h.member-list y
+
+  pub list-divide : (x : R) (g : ℕ) → m.list (m.member (map (λ z. quotient z g) (m.list x))) ≡ map (λ z. quotient z g) (m.list x)
+  list-divide x g = h.list-member (map (λ z. quotient z g) (m.list x)) (map-length (λ z. quotient z g) (m.list x) ∙ h.length-list x)
+
+  pub content_of_is : IsContent o (content_of m)
+  content_of_is = record {
+    ring = h.ring;
+    cancel = λ d x y p e. same_list x y (cancel_all d (m.list x) (m.list y) p (sym (h.scaled d x) ∙ ap m.list e ∙ h.scaled d y));
+    num_apart = h.num_apart;
+    positive = λ x d p. pos_of_dvd_of_pos (common-divides (m.list x) d) p;
+    divides = λ x d p. common-divides (m.list x) d;
+    divide_is = λ x d p. let g = common (m.list x) d in
+        same_list (o.mul (o.num g) (m.member (map (λ z. quotient z g) (m.list x)))) x
+        (h.scaled g (m.member (map (λ z. quotient z g) (m.list x))) ∙ ap (map (λ z. pos g *ℤ z)) (list-divide x g) ∙ times-quotients g (m.list x) d (dvd_refl g));
+    scale = λ k x d p q. ap (λ xs. common xs (k * d)) (h.scaled k x) ∙ common-scale k (m.list x) d p;
+    cofactor_is = h.cofactor_is;
+    size_is = h.size_is;
+    is_zero-true = h.is_zero-true;
+    is_zero-zero = h.is_zero-zero;
+  }

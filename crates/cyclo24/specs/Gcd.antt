@@ -1,0 +1,26 @@
+-- Greatest common divisors.
+--
+-- gcd a b: the greatest common divisor, by Euclid's algorithm
+-- common xs d: the greatest number that divides each of xs and d
+-- quotient z g: the whole number z over g, cut towards 0
+use Rattle.std.specs.Prelude.{ℕ, zero, suc, ◌%◌, ◌/◌, ℤ, pos, negsuc, neg_ℤ, List, [], ◌∷◌}
+use Rattle.std.specs.Int.RustNames.{unsigned_abs}
+
+abbrev pub gcd_steps : ℕ → ℕ → ℕ → ℕ
+gcd_steps zero a b = a
+gcd_steps (suc k) a zero = a
+gcd_steps (suc k) a (suc b) = gcd_steps k (suc b) (a % suc b)
+
+-- Euclid's
+unfoldable pub gcd : ℕ → ℕ → ℕ
+gcd a b = gcd_steps (suc b) a b
+
+-- of a list of whole numbers and a number
+abbrev pub common : List ℤ → ℕ → ℕ
+common [] d = d
+common (z ∷ zs) d = gcd (unsigned_abs z) (common zs d)
+
+-- z over g
+abbrev pub quotient : ℤ → ℕ → ℤ
+quotient (pos n) g = pos (n / g)
+quotient (negsuc n) g = neg_ℤ (pos (suc n / g))
