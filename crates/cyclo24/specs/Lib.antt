@@ -10,3 +10,12 @@ pub mod Fraction
 pub mod FractionLaws
 pub mod Numerators
 pub mod CommonLaws
+pub mod Carry
+pub mod Sums
+pub mod FieldLaws
+pub mod TotalLaws
+pub mod SumLaws
+pub mod Numerals
+pub mod NumeralLaws
+pub mod Listed
+pub mod ListedLaws
