@@ -1,16 +1,23 @@
 -- What divides all of a list of whole numbers.
 --
+-- list-lower: the list of a fraction in lowest terms
 -- content_of_is: the content of members that are lists of whole numbers obeys the laws of a content
-use Rattle.std.proofs.Common.{◌≡◌, ◌≢◌, ℕ, zero, suc, ◌+◌, ◌*◌, ◌/◌, ◌<◌, ◌≤◌, refl, sym, ap, ◌∙◌, subst, arith, ℤ, pos, negsuc, ◌*ℤ◌, neg_ℤ, List, [], ◌∷◌, map, length}
+use Rattle.std.proofs.Common.{◌≡◌, ◌≢◌, ℕ, zero, suc, ◌+◌, ◌*◌, ◌/◌, ◌<◌, ◌≤◌, refl, sym, ap, ◌∙◌, subst, arith, ℤ, pos, negsuc, ◌*ℤ◌, neg_ℤ, List, [], ◌∷◌, ◌++◌, map, length, Bool, true, false}
+use Rattle.std.specs.Prelude.{◌&&◌}
+use Rattle.std.specs.Ordering.{int_eq}
+use Rattle.std.specs.Cmp.{signed_Decides}
 use Prim.Native.Nat.{◌∣◌}
 use Rattle.std.specs.Int.RustNames.{unsigned_abs}
 use Rattle.std.proofs.lemmas.Int.{ints, unsigned_abs-mul}
 use Rattle.std.proofs.Math.Nat.{mul-div_cancel', dvd_trans, dvd_refl, pos_of_dvd_of_pos}
 use borrow.Author.Differences.{up, down, product_is, same_in, same_out}
 use Rattle.cyclo24.specs.Ring.{Ops}
-use Rattle.cyclo24.specs.Gcd.{gcd, common, quotient}
+use Rattle.cyclo24.specs.Gcd.{gcd, common, quotient, lowest_terms, all_zero}
+use Rattle.cyclo24.specs.BoolLaws.{and_left, and_right}
+use Rattle.cyclo24.specs.Solve.{zero_mul}
 use Rattle.cyclo24.specs.GcdLaws.{gcd_is, gcd_scale}
 use Rattle.cyclo24.specs.Fraction.{Content, IsContent}
+use Rattle.cyclo24.specs.FractionLaws.{lower}
 use Rattle.cyclo24.specs.Numerators.{Numerators, IsNumerators, content_of}
 
 mul_left_cancel : (n a b : ℕ) → 0 < n → n * a ≡ n * b → a ≡ b
@@ -60,12 +67,38 @@ map-length : (f : ℤ → ℤ) (xs : List ℤ) → length (map f xs) ≡ length 
 map-length f [] = refl
 map-length f (x ∷ xs) = omega (arith, map-length f xs)
 
+zeros : (xs : List ℤ) → all_zero xs ≡ true → xs ≡ map (λ z. pos 0 *ℤ z) xs
+zeros [] e = refl
+zeros (x ∷ xs) e =
+    let head : x ≡ pos 0 = (signed_Decides x (pos 0)).0 (and_left (int_eq x (pos 0)) (all_zero xs) e) in
+    let tail : xs ≡ map (λ z. pos 0 *ℤ z) xs = zeros xs (and_right (int_eq x (pos 0)) (all_zero xs) e) in
+    let zero_times : pos 0 *ℤ x ≡ pos 0 = omega (arith, ints) in
+    λ i. (head ∙ sym zero_times) i ∷ tail i
+
+all_zero-times : (xs : List ℤ) → all_zero (map (λ z. pos 0 *ℤ z) xs) ≡ true
+all_zero-times [] = refl
+all_zero-times (x ∷ xs) =
+    let zero_times : pos 0 *ℤ x ≡ pos 0 = omega (arith, ints) in
+    ap (λ z. int_eq z (pos 0) && all_zero (map (λ z. pos 0 *ℤ z) xs)) zero_times ∙ all_zero-times xs
+
+positive_unless : (n : ℕ) → n ≢ 0 → 0 < n
+positive_unless n a = omega arith
+
+apart : (b : Bool) → b ≡ true → b ≡ false → ⊥
+apart b e f = cc
+
 module _ {R : Type 0} (o : Ops R) (m : Numerators o) (h : IsNumerators o m) where
   same_list : (x y : R) → m.list x ≡ m.list y → x ≡ y
   same_list x y e = sym (h.member-list x) ∙ ap m.member e ∙ h.member-list y
 
   pub list-divide : (x : R) (g : ℕ) → m.list (m.member (map (λ z. quotient z g) (m.list x))) ≡ map (λ z. quotient z g) (m.list x)
   list-divide x g = h.list-member (map (λ z. quotient z g) (m.list x)) (map-length (λ z. quotient z g) (m.list x) ∙ h.length-list x)
+
+  list-zero : (x : R) → map (λ z. pos 0 *ℤ z) (m.list x) ≡ m.list (o.num 0)
+  list-zero x = sym (h.scaled 0 x) ∙ ap m.list (zero_mul o h.ring x)
+
+  zero_is_zero : (x : R) → x ≡ o.num 0 → all_zero (m.list x) ≡ true
+  zero_is_zero x e = ap all_zero (ap m.list e ∙ sym (list-zero x)) ∙ all_zero-times (m.list x)
 
   pub content_of_is : IsContent o (content_of m)
   content_of_is = record {
@@ -79,7 +112,11 @@ module _ {R : Type 0} (o : Ops R) (m : Numerators o) (h : IsNumerators o m) wher
         (h.scaled g (m.member (map (λ z. quotient z g) (m.list x))) ∙ ap (map (λ z. pos g *ℤ z)) (list-divide x g) ∙ times-quotients g (m.list x) d (dvd_refl g));
     scale = λ k x d p q. ap (λ xs. common xs (k * d)) (h.scaled k x) ∙ common-scale k (m.list x) d p;
     cofactor_is = h.cofactor_is;
-    size_is = h.size_is;
-    is_zero-true = h.is_zero-true;
-    is_zero-zero = h.is_zero-zero;
+    size_is = λ x e. positive_unless (m.size x) (λ z. apart (all_zero (m.list x)) (zero_is_zero x (h.size-zero x z)) e);
+    is_zero-true = λ x e. same_list x (o.num 0) (zeros (m.list x) e ∙ list-zero x);
+    is_zero-zero = zero_is_zero (o.num 0) refl;
   }
+
+  -- the list of a fraction in lowest terms
+  pub list-lower : (x : R) (d : ℕ) (p : 0 < d) → m.list (lower o (content_of m) content_of_is x d p).top ++ pos (lower o (content_of m) content_of_is x d p).low ∷ [] ≡ lowest_terms (m.list x) d
+  list-lower x d p = ap (λ xs. xs ++ pos (d / common (m.list x) d) ∷ []) (list-divide x (common (m.list x) d))

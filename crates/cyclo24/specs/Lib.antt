@@ -1,5 +1,6 @@
 pub mod FieldOn
 pub mod ExactField
+pub mod BoolLaws
 pub mod Ring
 pub mod Solve
 pub mod WholeRing

@@ -6,7 +6,7 @@
 use Rattle.std.specs.Prelude.{◌≡◌, ℕ, suc, ◌<◌, ℤ, pos, negsuc, List, [], ◌∷◌, ◌++◌, length, take, get_or, Bool, true, false, ◌&&◌, nat_eq, nat_lt}
 use Rattle.std.specs.Int.RustNames.{unsigned_abs}
 use Rattle.std.specs.declared.cmp.Ordering.{Ordering}
-use Rattle.std.specs.Ordering.{ordering_then, int_cmp}
+use Rattle.std.specs.Ordering.{int_cmp, on, then_cmp}
 use Rattle.std.specs.Cmp.Lexicographic.{slice_cmp}
 use Rattle.cyclo24.specs.ExactField.{Exact}
 use Rattle.cyclo24.specs.Gcd.{common}
@@ -29,4 +29,4 @@ is_exact n x = nat_eq (length x) (suc n) && (is_positive (denominator n x) && na
 
 -- by denominator, then by numerators
 abbrev pub exact_cmp : (n : ℕ) → Exact (is_exact n) → Exact (is_exact n) → Ordering
-exact_cmp n x y = ordering_then (int_cmp (denominator n x.0) (denominator n y.0)) (slice_cmp int_cmp (numerators n x.0) (numerators n y.0))
+exact_cmp n = then_cmp (on (λ x. denominator n x.0) int_cmp) (on (λ x. numerators n x.0) (slice_cmp int_cmp))

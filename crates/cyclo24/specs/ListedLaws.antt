@@ -2,7 +2,9 @@
 --
 -- same_exact: exact values with one list are equal
 -- listed: fractions and exact lists correspond
--- exact_laws: the field of the exact lists
+-- exact_laws: the field of the exact lists, of characteristic zero by exact_ones
+-- exact-lower: the exact value of x / d is its list in lowest terms
+-- from-top, from-low, is_nought-is: the parts of an exact value
 -- exact_cmp_total, exact_cmp-Equal: the order is total, and ties are equal
 use Rattle.std.proofs.Common.{◌≡◌, ℕ, zero, suc, ◌+◌, ◌<◌, ◌≤◌, refl, sym, ap, ◌∙◌, subst, arith, rules, ℤ, pos, negsuc, List, [], ◌∷◌, ◌++◌, length, take, get_or, Bool, true, false, nat_eq}
 use Rattle.std.specs.Prelude.{◌&&◌}
@@ -12,16 +14,18 @@ use Rattle.std.proofs.lemmas.Int.{ints}
 use mathlib.Core.HLevel.{is_prop→PathP}
 use Rattle.std.specs.declared.cmp.Ordering.{Ordering}
 use Rattle.std.specs.declared.cmp.Ordering.TheVariants.{Less, Equal, Greater}
-use Rattle.std.specs.Cmp.{IsTotalOrder}
-use Rattle.std.specs.Ordering.{ordering_then, int_cmp}
+use Rattle.std.specs.Cmp.{IsTotalOrder, then_total, on_total, int_cmp_total, signed_Decides}
+use Rattle.std.specs.Cmp.Lexicographic.{slice_cmp, lists_total}
+use Rattle.std.specs.Ordering.{ordering_then, int_cmp, is_eq, on, then_cmp}
+use Rattle.cyclo24.specs.BoolLaws.{and_left, and_right, and_both}
 use Rattle.cyclo24.specs.Ring.{Ops}
 use Rattle.cyclo24.specs.ExactField.{Exact}
 use Rattle.cyclo24.specs.FieldOn.{FieldOn, ones}
-use Rattle.cyclo24.specs.Gcd.{common}
+use Rattle.cyclo24.specs.Gcd.{common, lowest_terms, all_zero}
 use Rattle.cyclo24.specs.Fraction.{Content, Fraction}
-use Rattle.cyclo24.specs.FractionLaws.{fractions, same_parts, ones-not_nought}
+use Rattle.cyclo24.specs.FractionLaws.{lower, fractions, same_parts, ones-not_nought}
 use Rattle.cyclo24.specs.Numerators.{Numerators, IsNumerators, content_of}
-use Rattle.cyclo24.specs.CommonLaws.{content_of_is}
+use Rattle.cyclo24.specs.CommonLaws.{content_of_is, list-lower}
 use Rattle.cyclo24.specs.Carry.{Same, carried, carried-ones}
 use Rattle.cyclo24.specs.Listed.{numerators, denominator, is_positive, is_exact, exact_cmp}
 
@@ -57,17 +61,6 @@ length-front : (n : ℕ) (xs : List ℤ) → length xs ≡ suc n → length (tak
 length-front n [] e = absurd (omega arith)
 length-front zero (x ∷ xs) e = refl
 length-front (suc n) (x ∷ xs) e = ap suc (length-front n xs (omega arith))
-
-and_left : (a b : Bool) → (a && b) ≡ true → a ≡ true
-and_left true b e = refl
-and_left false b e = e
-
-and_right : (a b : Bool) → (a && b) ≡ true → b ≡ true
-and_right true b e = e
-and_right false b e = absurd (cc)
-
-and_both : (a b : Bool) → a ≡ true → b ≡ true → (a && b) ≡ true
-and_both a b e f = grind arith
 
 same_number : (a b : ℕ) → nat_eq a b ≡ true → a ≡ b
 same_number a b e = search rules
@@ -155,3 +148,56 @@ module _ {R : Type 0} (o : Ops R) (m : Numerators o) (h : IsNumerators o m) wher
 
   pub listed : Same (Fraction (content_of m)) (Exact (is_exact m.count))
   listed = record { to = listed-to; from = listed-from; from-to = from-to; to-from = to-from }
+
+  -- the field of the exact lists
+  abbrev pub exact_laws : FieldOn (Exact (is_exact m.count))
+  exact_laws = carried (fractions o (content_of m) (content_of_is o m h)) listed
+
+  pub exact_ones : (n : ℕ) → exact_laws.is_nought (ones exact_laws (suc n)) ≡ false
+  exact_ones n = ap (λ f. all_zero (m.list (let k : Fraction (content_of m) = f in k.top))) (carried-ones (fractions o (content_of m) (content_of_is o m h)) listed (suc n)) ∙ ones-not_nought o (content_of m) (content_of_is o m h) n
+
+  -- an exact value with the list of x / d in lowest terms
+  pub exact-lower : (x : R) (d : ℕ) (p : 0 < d) (s : Exact (is_exact m.count)) → s.0 ≡ lowest_terms (m.list x) d → s ≡ listed.to (lower o (content_of m) (content_of_is o m h) x d p)
+  unfolding listed listed-to
+  exact-lower x d p s e = same_exact s (listed-to (lower o (content_of m) (content_of_is o m h) x d p)) (e ∙ sym (list-lower o m h x d p))
+
+  pub from-top : (x : Exact (is_exact m.count)) → (listed.from x).top ≡ m.member (numerators m.count x.0)
+  unfolding listed listed-from
+  from-top x = refl
+
+  pub from-low : (x : Exact (is_exact m.count)) → (listed.from x).low ≡ unsigned_abs (denominator m.count x.0)
+  unfolding listed listed-from
+  from-low x = refl
+
+  pub is_nought-is : (x : Exact (is_exact m.count)) → exact_laws.is_nought x ≡ all_zero (numerators m.count x.0)
+  is_nought-is x = ap (λ y. all_zero (m.list y)) (from-top x) ∙ ap all_zero (h.list-member (numerators m.count x.0) (length-front m.count x.0 (exact_is m.count x.0 x.1).size))
+
+-- the order
+
+pub exact_cmp_total : (n : ℕ) → IsTotalOrder (exact_cmp n)
+exact_cmp_total n = then_total (on_total (λ (x : Exact (is_exact n)). denominator n x.0) int_cmp_total) (on_total (λ (x : Exact (is_exact n)). numerators n x.0) (lists_total int_cmp_total))
+
+then_first : (a b : Ordering) → ordering_then a b ≡ Equal → (a ≡ Equal) × (b ≡ Equal)
+then_first Less b e = absurd (cc)
+then_first Equal b e = (refl, e)
+then_first Greater b e = absurd (cc)
+
+int_cmp-Equal : (x y : ℤ) → int_cmp x y ≡ Equal → x ≡ y
+int_cmp-Equal x y e = (signed_Decides x y).0 (ap is_eq e)
+
+slice_cmp-Equal : (xs ys : List ℤ) → slice_cmp int_cmp xs ys ≡ Equal → xs ≡ ys
+slice_cmp-Equal [] [] e = refl
+slice_cmp-Equal [] (y ∷ ys) e = absurd (cc)
+slice_cmp-Equal (x ∷ xs) [] e = absurd (cc)
+slice_cmp-Equal (x ∷ xs) (y ∷ ys) e =
+    let t = then_first (int_cmp x y) (slice_cmp int_cmp xs ys) e in
+    let head : x ≡ y = int_cmp-Equal x y t.0 in
+    let tail : xs ≡ ys = slice_cmp-Equal xs ys t.1 in
+    λ i. head i ∷ tail i
+
+pub exact_cmp-Equal : (n : ℕ) (x y : Exact (is_exact n)) → exact_cmp n x y ≡ Equal → x ≡ y
+exact_cmp-Equal n x y e =
+    let t = then_first (int_cmp (denominator n x.0) (denominator n y.0)) (slice_cmp int_cmp (numerators n x.0) (numerators n y.0)) e in
+    let d : denominator n x.0 ≡ denominator n y.0 = int_cmp-Equal (denominator n x.0) (denominator n y.0) t.0 in
+    let a : numerators n x.0 ≡ numerators n y.0 = slice_cmp-Equal (numerators n x.0) (numerators n y.0) t.1 in
+    same_exact x y (sym (join-last n x.0 (exact_is n x.0 x.1).size) ∙ (λ i. a i ++ d i ∷ []) ∙ join-last n y.0 (exact_is n y.0 y.1).size)

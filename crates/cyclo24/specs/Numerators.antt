@@ -2,9 +2,9 @@
 --
 -- Numerators o: members of the ring o as lists of whole numbers, and IsNumerators its laws
 -- content_of m: what divides a member and a number is what divides each number of its list
-use Rattle.std.specs.Prelude.{◌≡◌, ◌≢◌, ℕ, ◌*◌, ◌<◌, ℤ, pos, ◌*ℤ◌, List, map, length, Bool, true, false}
+use Rattle.std.specs.Prelude.{◌≡◌, ◌≢◌, ℕ, ◌*◌, ◌<◌, ℤ, pos, ◌*ℤ◌, List, map, length}
 use Rattle.cyclo24.specs.Ring.{Ops, IsRing}
-use Rattle.cyclo24.specs.Gcd.{common, quotient}
+use Rattle.cyclo24.specs.Gcd.{common, quotient, all_zero}
 use Rattle.cyclo24.specs.Fraction.{Content}
 
 -- a member as the list of its numbers, and back
@@ -15,7 +15,6 @@ pub record Numerators {R : Type 0} (o : Ops R) : Type 0 where
   -- x (cofactor x) is the number size x
   pub cofactor : R → R
   pub size : R → ℕ
-  pub is_zero : R → Bool
 
 pub record IsNumerators {R : Type 0} (o : Ops R) (m : Numerators o) : Type 0 where
   pub ring : IsRing o
@@ -25,9 +24,7 @@ pub record IsNumerators {R : Type 0} (o : Ops R) (m : Numerators o) : Type 0 whe
   pub scaled : (k : ℕ) (x : R) → m.list (o.mul (o.num k) x) ≡ map (λ z. pos k *ℤ z) (m.list x)
   pub num_apart : (d : ℕ) → 0 < d → o.num d ≢ o.num 0
   pub cofactor_is : (x : R) → o.mul x (m.cofactor x) ≡ o.num (m.size x)
-  pub size_is : (x : R) → m.is_zero x ≡ false → 0 < m.size x
-  pub is_zero-true : (x : R) → m.is_zero x ≡ true → x ≡ o.num 0
-  pub is_zero-zero : m.is_zero (o.num 0) ≡ true
+  pub size-zero : (x : R) → m.size x ≡ 0 → x ≡ o.num 0
 
 -- the content of a member is that of its list
 abbrev pub content_of : {R : Type 0} {o : Ops R} → Numerators o → Content o
@@ -36,5 +33,5 @@ content_of m = record {
   divide = λ x g. m.member (map (λ z. quotient z g) (m.list x));
   cofactor = m.cofactor;
   size = m.size;
-  is_zero = m.is_zero;
+  is_zero = λ x. all_zero (m.list x);
 }
