@@ -20,3 +20,8 @@ pub mod Numerals
 pub mod NumeralLaws
 pub mod Listed
 pub mod ListedLaws
+pub mod Checked
+pub mod CheckedLaws
+pub mod Four
+pub mod FourLaws
+pub mod FourNorm

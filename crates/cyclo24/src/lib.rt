@@ -5,5 +5,6 @@
 #![tactic(auto)]
 
 mod field;
+mod whole;
 
 pub use field::{Field, Wide};

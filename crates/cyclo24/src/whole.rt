@@ -1,0 +1,154 @@
+// Whole numbers in 128 bits, and sums of products that are refused where a written number is wide.
+ghost use Rattle.std.specs.Prelude.{◌≡◌, ◌<◌, pos, int_lt, false, neg_ℤ};
+ghost use Rattle.std.specs.Int.RustNames.{unsigned_abs};
+ghost use Rattle.std.specs.Ordering.{int_eq};
+ghost use Rattle.cyclo24.specs.Gcd.{gcd, quotient};
+ghost use Rattle.cyclo24.specs.Checked.{answer, written, times, plus, term, sum_of, is_wide};
+
+use crate::Wide;
+
+/// The least absolute value that isn't written.
+const LEAST_WIDE: u128 = 1 << 126;
+
+/// A whole number of 128 bits.
+#[derive(Clone, Copy, Debug, PartialEq, Eq, PartialOrd, Ord, Hash)]
+pub(crate) struct Whole {
+    n: i128,
+}
+
+// The number, unless it is wide.
+fn narrow(x: i128) -> Result<Whole, Wide>
+    ensures { result ≡ answer (written x) }
+{
+    if x.unsigned_abs() < LEAST_WIDE {
+        Ok(Whole { n: x })
+    } else {
+        Err(Wide)
+    }
+}
+
+// The greatest common divisor, by Euclid's algorithm.
+#[tactic(auto, using(crate::specs::GcdLaws::gcd_step, crate::specs::GcdLaws::gcd_zero))]
+fn euclid(a: u128, b: u128) -> u128
+    ensures { result ≡ gcd a b }
+{
+    let mut x = a;
+    let mut y = b;
+    while y != 0 {
+        let rest = x % y;
+        x = y;
+        y = rest;
+    }
+    x
+}
+
+impl Whole {
+    /// Whether it is 0.
+    pub(crate) fn is_zero(self) -> bool
+        ensures { result ≡ int_eq self.n (pos 0) }
+    {
+        self.n == 0
+    }
+
+    /// Whether it is below 0.
+    pub(crate) fn is_negative(self) -> bool
+        ensures { result ≡ int_lt self.n (pos 0) }
+    {
+        self.n < 0
+    }
+
+    /// -x.
+    pub(crate) fn negated(self) -> Whole
+        requires { is_wide self.n ≡ false }
+        ensures { result ≡ record { n = neg_ℤ self.n } }
+    {
+        Whole { n: -self.n }
+    }
+
+    /// The quotient by a divisor above 0, cut towards 0.
+    pub(crate) fn divided(self, divisor: Whole) -> Whole
+        requires narrow { is_wide self.n ≡ false }
+        requires positive { 0 < unsigned_abs divisor.n }
+        requires upright { divisor.n ≡ pos (unsigned_abs divisor.n) }
+        ensures { result ≡ record { n = quotient self.n (unsigned_abs divisor.n) } }
+    {
+        Whole {
+            n: self.n / divisor.n,
+        }
+    }
+
+    /// The greatest common divisor.
+    pub(crate) fn common(self, other: Whole) -> Whole
+        requires narrow { is_wide self.n ≡ false }
+        requires narrow_other { is_wide other.n ≡ false }
+        ensures value { result ≡ record { n = pos (gcd (unsigned_abs self.n) (unsigned_abs other.n)) } }
+        ensures narrow { is_wide result.n ≡ false }
+    {
+        Whole {
+            n: euclid(self.n.unsigned_abs(), other.n.unsigned_abs()) as i128,
+        }
+    }
+
+    /// x y, unless it is wide.
+    #[tactic(auto, using(crate::specs::CheckedLaws::wide_answer))]
+    pub(crate) fn times(self, other: Whole) -> Result<Whole, Wide>
+        ensures { result ≡ answer (times self other) }
+    {
+        match self.n.checked_mul(other.n) {
+            Some(product) => narrow(product),
+            None => Err(Wide),
+        }
+    }
+
+    /// x + y, unless it is wide.
+    #[tactic(auto, using(crate::specs::CheckedLaws::wide_answer))]
+    pub(crate) fn plus(self, other: Whole) -> Result<Whole, Wide>
+        ensures { result ≡ answer (plus self other) }
+    {
+        match self.n.checked_add(other.n) {
+            Some(sum) => narrow(sum),
+            None => Err(Wide),
+        }
+    }
+}
+
+/// The product of two numbers with a factor.
+#[derive(Clone, Copy, Debug)]
+pub(crate) struct Product {
+    factor: Whole,
+    x: Whole,
+    y: Whole,
+}
+
+impl Product {
+    /// The product x y with this factor, which is small.
+    pub(crate) fn new(factor: i8, x: Whole, y: Whole) -> Product
+        ensures { result ≡ record { factor = record { n = factor }; x = x; y = y } }
+    {
+        Product {
+            factor: Whole { n: factor as i128 },
+            x,
+            y,
+        }
+    }
+
+    /// Its value, unless it or the product without the factor is wide.
+    pub(crate) fn value(self) -> Result<Whole, Wide>
+        ensures { result ≡ answer (term self) }
+    {
+        let product = self.x.times(self.y)?;
+        self.factor.times(product)
+    }
+}
+
+/// The sum of products from left to right, unless a written number is wide.
+pub(crate) fn sum_of(terms: &[Product]) -> Result<Whole, Wide>
+    ensures { result ≡ answer (sum_of terms.now) }
+{
+    let mut sum = Whole { n: 0 };
+    for term in terms {
+        let value = term.value()?;
+        sum = sum.plus(value)?;
+    }
+    Ok(sum)
+}
