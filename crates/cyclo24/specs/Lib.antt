@@ -25,3 +25,4 @@ pub mod CheckedLaws
 pub mod Four
 pub mod FourLaws
 pub mod FourNorm
+pub mod Written4

@@ -5,6 +5,7 @@
 #![tactic(auto)]
 
 mod field;
+mod fraction4;
 mod whole;
 
 pub use field::{Field, Wide};

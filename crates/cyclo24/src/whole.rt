@@ -13,7 +13,7 @@ const LEAST_WIDE: u128 = 1 << 126;
 /// A whole number of 128 bits.
 #[derive(Clone, Copy, Debug, PartialEq, Eq, PartialOrd, Ord, Hash)]
 pub(crate) struct Whole {
-    n: i128,
+    pub(crate) n: i128,
 }
 
 // The number, unless it is wide.
@@ -112,28 +112,17 @@ impl Whole {
     }
 }
 
-/// The product of two numbers with a factor.
+/// The product of two numbers, times a small factor.
 #[derive(Clone, Copy, Debug)]
 pub(crate) struct Product {
-    factor: Whole,
-    x: Whole,
-    y: Whole,
+    pub(crate) factor: Whole,
+    pub(crate) x: Whole,
+    pub(crate) y: Whole,
 }
 
 impl Product {
-    /// The product x y with this factor, which is small.
-    pub(crate) fn new(factor: i8, x: Whole, y: Whole) -> Product
-        ensures { result ≡ record { factor = record { n = factor }; x = x; y = y } }
-    {
-        Product {
-            factor: Whole { n: factor as i128 },
-            x,
-            y,
-        }
-    }
-
     /// Its value, unless it or the product without the factor is wide.
-    pub(crate) fn value(self) -> Result<Whole, Wide>
+    fn value(self) -> Result<Whole, Wide>
         ensures { result ≡ answer (term self) }
     {
         let product = self.x.times(self.y)?;
