@@ -6,6 +6,7 @@
 -- then m f: f after m; give a: the value a, for which nothing is written
 -- times, plus: one number is written
 -- term p: a product, and then the product with its factor
+-- product_of f x y: the product x y with the factor f
 -- sum_of ps: a sum of products from left to right
 use Rattle.std.specs.Prelude.{◌≡◌, ℕ, ◌^◌, Bool, true, false, cond, nat_le, Result, Ok, Err, ℤ, pos, ◌+ℤ◌, ◌*ℤ◌, List, [], ◌∷◌, ◌++◌, ◌||◌}
 use Rattle.std.specs.Int.RustNames.{unsigned_abs}
@@ -48,6 +49,10 @@ times x y = written (x.n *ℤ y.n)
 
 abbrev pub plus : Whole → Whole → Checked Whole
 plus x y = written (x.n +ℤ y.n)
+
+-- the product x y with the factor f
+abbrev pub product_of : ℤ → Whole → Whole → Product
+product_of f x y = record { factor = record { n = f }; x = x; y = y }
 
 -- a product, and then the product with its factor
 unfoldable pub term : Product → Checked Whole

@@ -1,7 +1,7 @@
 -- The greatest common divisor by its properties.
 --
 -- gcd_is: it divides both, and each common divisor divides it
--- gcd_scale, gcd_zero, gcd_step, gcd_below: of multiples, with 0, one step of Euclid's, its size
+-- gcd_scale, gcd_zero, gcd_step, gcd_below, gcd_positive: of multiples, with 0, one step of Euclid's, its size
 use Rattle.std.proofs.Common.{◌≡◌, ℕ, zero, suc, ◌+◌, ◌*◌, ◌/◌, ◌%◌, ◌<◌, ◌≤◌, refl, sym, ap, ◌∙◌, subst, arith, ℤ, pos, ◌*ℤ◌}
 use Prim.Native.Nat.{◌∣◌}
 use Rattle.std.specs.Int.{IsGcd}
@@ -45,3 +45,6 @@ pub gcd_below : (a b m : ℕ) → a < m → b < m → gcd a b < m
 gcd_below zero zero m p q = subst (λ n. n < m) (sym (gcd_zero zero zero refl)) p
 gcd_below (suc a) b m p q = let h : gcd (suc a) b ≤ suc a = le_of_dvd (omega arith) (gcd_is (suc a) b).0 in omega arith
 gcd_below zero (suc b) m p q = let h : gcd zero (suc b) ≤ suc b = le_of_dvd (omega arith) (gcd_is zero (suc b)).1 in omega arith
+
+pub gcd_positive : (a b : ℕ) → 0 < b → 0 < gcd a b
+gcd_positive a b p = pos_of_dvd_of_pos (gcd_is a b).1 p

@@ -26,3 +26,4 @@ pub mod Four
 pub mod FourLaws
 pub mod FourNorm
 pub mod Written4
+pub mod Written4Laws

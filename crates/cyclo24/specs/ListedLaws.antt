@@ -68,7 +68,7 @@ same_number a b e = search rules
 equal_number : (a b : ℕ) → a ≡ b → nat_eq a b ≡ true
 equal_number a b e = search rules
 
-positive_abs : (z : ℤ) → is_positive z ≡ true → (0 < unsigned_abs z) × (z ≡ pos (unsigned_abs z))
+pub positive_abs : (z : ℤ) → is_positive z ≡ true → (0 < unsigned_abs z) × (z ≡ pos (unsigned_abs z))
 positive_abs (pos n) e = (search rules, refl)
 positive_abs (negsuc n) e = absurd (cc)
 

@@ -82,6 +82,7 @@ impl Whole {
         requires narrow { is_wide self.n ≡ false }
         requires narrow_other { is_wide other.n ≡ false }
         ensures value { result ≡ record { n = pos (gcd (unsigned_abs self.n) (unsigned_abs other.n)) } }
+        ensures positive { 0 < unsigned_abs other.n → 0 < unsigned_abs result.n }
         ensures narrow { is_wide result.n ≡ false }
     {
         Whole {
