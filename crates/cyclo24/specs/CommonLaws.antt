@@ -1,5 +1,6 @@
 -- What divides all of a list of whole numbers.
 --
+-- over_one: numerators and a denominator that nothing divides are in lowest terms
 -- list-lower: the list of a fraction in lowest terms
 -- content_of_is: the content of members that are lists of whole numbers obeys the laws of a content
 use Rattle.std.proofs.Common.{◌≡◌, ◌≢◌, ℕ, zero, suc, ◌+◌, ◌*◌, ◌/◌, ◌<◌, ◌≤◌, refl, sym, ap, ◌∙◌, subst, arith, ℤ, pos, negsuc, ◌*ℤ◌, neg_ℤ, List, [], ◌∷◌, ◌++◌, map, length, Bool, true, false}
@@ -66,6 +67,20 @@ cancel_all d (x ∷ xs) (y ∷ ys) p e =
 map-length : (f : ℤ → ℤ) (xs : List ℤ) → length (map f xs) ≡ length xs
 map-length f [] = refl
 map-length f (x ∷ xs) = omega (arith, map-length f xs)
+
+quotient-one : (z : ℤ) → quotient z 1 ≡ z
+quotient-one (pos n) = let e : n / 1 ≡ n = omega arith in ap pos e
+quotient-one (negsuc n) = let e : suc n / 1 ≡ suc n = omega arith in ap (λ k. neg_ℤ (pos k)) e
+
+quotients-one : (xs : List ℤ) → map (λ z. quotient z 1) xs ≡ xs
+quotients-one [] = refl
+quotients-one (x ∷ xs) = λ i. quotient-one x i ∷ quotients-one xs i
+
+-- what is in lowest terms stays
+pub over_one : (xs : List ℤ) (d : ℕ) → common xs d ≡ 1 → lowest_terms xs d ≡ xs ++ pos d ∷ []
+over_one xs d e =
+    let whole : d / 1 ≡ d = omega arith in
+    ap (λ g. map (λ z. quotient z g) xs ++ pos (d / g) ∷ []) e ∙ (λ i. quotients-one xs i ++ pos (whole i) ∷ [])
 
 zeros : (xs : List ℤ) → all_zero xs ≡ true → xs ≡ map (λ z. pos 0 *ℤ z) xs
 zeros [] e = refl

@@ -20,6 +20,7 @@ pub mod Numerals
 pub mod NumeralLaws
 pub mod Listed
 pub mod ListedLaws
+pub mod ExactLaws
 pub mod Checked
 pub mod CheckedLaws
 pub mod Four

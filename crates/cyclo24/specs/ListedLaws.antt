@@ -3,7 +3,7 @@
 -- same_exact: exact values with one list are equal
 -- listed: fractions and exact lists correspond
 -- exact_laws: the field of the exact lists, of characteristic zero by exact_ones
--- exact-lower: the exact value of x / d is its list in lowest terms
+-- listed-lower, exact-lower: the exact value of x / d is its list in lowest terms
 -- from-top, from-low, is_nought-is: the parts of an exact value
 -- exact_cmp_total, exact_cmp-Equal: the order is total, and ties are equal
 use Rattle.std.proofs.Common.{◌≡◌, ℕ, zero, suc, ◌+◌, ◌<◌, ◌≤◌, refl, sym, ap, ◌∙◌, subst, arith, rules, ℤ, pos, negsuc, List, [], ◌∷◌, ◌++◌, length, take, get_or, Bool, true, false, nat_eq}
@@ -51,13 +51,13 @@ length-last zero (x ∷ xs) d e = absurd (omega arith)
 length-last (suc n) [] d e = absurd (omega arith)
 length-last (suc n) (x ∷ xs) d e = ap suc (length-last n xs d (omega arith))
 
-join-last : (n : ℕ) (xs : List ℤ) → length xs ≡ suc n → take n xs ++ get_or xs n (pos 0) ∷ [] ≡ xs
+pub join-last : (n : ℕ) (xs : List ℤ) → length xs ≡ suc n → take n xs ++ get_or xs n (pos 0) ∷ [] ≡ xs
 join-last n [] e = absurd (omega arith)
 join-last zero (x ∷ []) e = refl
 join-last zero (x ∷ y ∷ xs) e = absurd (omega arith)
 join-last (suc n) (x ∷ xs) e = ap (λ ys. x ∷ ys) (join-last n xs (omega arith))
 
-length-front : (n : ℕ) (xs : List ℤ) → length xs ≡ suc n → length (take n xs) ≡ n
+pub length-front : (n : ℕ) (xs : List ℤ) → length xs ≡ suc n → length (take n xs) ≡ n
 length-front n [] e = absurd (omega arith)
 length-front zero (x ∷ xs) e = refl
 length-front (suc n) (x ∷ xs) e = ap suc (length-front n xs (omega arith))
@@ -155,6 +155,11 @@ module _ {R : Type 0} (o : Ops R) (m : Numerators o) (h : IsNumerators o m) wher
 
   pub exact_ones : (n : ℕ) → exact_laws.is_nought (ones exact_laws (suc n)) ≡ false
   exact_ones n = ap (λ f. all_zero (m.list (let k : Fraction (content_of m) = f in k.top))) (carried-ones (fractions o (content_of m) (content_of_is o m h)) listed (suc n)) ∙ ones-not_nought o (content_of m) (content_of_is o m h) n
+
+  -- the list of x / d in lowest terms
+  pub listed-lower : (x : R) (d : ℕ) (p : 0 < d) → (listed.to (lower o (content_of m) (content_of_is o m h) x d p)).0 ≡ lowest_terms (m.list x) d
+  unfolding listed listed-to
+  listed-lower x d p = list-lower o m h x d p
 
   -- an exact value with the list of x / d in lowest terms
   pub exact-lower : (x : R) (d : ℕ) (p : 0 < d) (s : Exact (is_exact m.count)) → s.0 ≡ lowest_terms (m.list x) d → s ≡ listed.to (lower o (content_of m) (content_of_is o m h) x d p)
