@@ -2,8 +2,9 @@
 --
 -- numbers4 r: the numerators and then the denominator; numerators4 r, four_of r: the numerators
 -- fraction_of x: the list x as numerators and denominator
--- IsNarrow4 r: no number is wide, and the denominator is above 0
--- product, sum, inverse: the formulas, before lowest terms
+-- IsNarrow4 r: no number is wide
+-- fraction c0 c1 c2 c3 d: four numerators, then a denominator
+-- product, sum, inverse: the formulas, before lowest terms and with the sign of the norm
 -- negated, upright: with all signs changed, always or where the denominator is below 0
 use Rattle.std.specs.Prelude.{◌≡◌, ℕ, ℤ, pos, negsuc, neg_ℤ, List, [], ◌∷◌, get_or, true, false, cond, int_lt}
 use Rattle.std.specs.Int.RustNames.{unsigned_abs}
@@ -11,7 +12,6 @@ use Rattle.cyclo24.specs.declared.whole.Whole.{Whole}
 use Rattle.cyclo24.specs.declared.whole.Product.{Product}
 use Rattle.cyclo24.specs.declared.fraction4.Fraction4.{Fraction4}
 use Rattle.cyclo24.specs.Gcd.{gcd, quotient}
-use Rattle.cyclo24.specs.Listed.{is_positive}
 use Rattle.cyclo24.specs.Four.{Four}
 use Rattle.cyclo24.specs.Checked.{Checked, is_wide, then, give, times, product_of, sum_of}
 
@@ -32,14 +32,13 @@ whole_at x i = record { n = get_or x i (pos 0) }
 abbrev pub fraction_of : List ℤ → Fraction4
 fraction_of x = record { d = whole_at x 4; a0 = whole_at x 0; a1 = whole_at x 1; a2 = whole_at x 2; a3 = whole_at x 3 }
 
--- no number is wide, and the denominator is above 0
+-- no number is wide
 pub record IsNarrow4 (r : Fraction4) : Type 0 where
   pub narrow0 : is_wide r.a0.n ≡ false
   pub narrow1 : is_wide r.a1.n ≡ false
   pub narrow2 : is_wide r.a2.n ≡ false
   pub narrow3 : is_wide r.a3.n ≡ false
   pub narrow : is_wide r.d.n ≡ false
-  pub positive : is_positive r.d.n ≡ true
 
 -- the coefficient of 1 in a product
 unfoldable pub product0 : Fraction4 → Fraction4 → Checked Whole
@@ -57,11 +56,14 @@ product2 a b = sum_of (product_of (pos 1) a.a0 b.a2 ∷ product_of (pos 1) a.a2 
 unfoldable pub product3 : Fraction4 → Fraction4 → Checked Whole
 product3 a b = sum_of (product_of (pos 1) a.a0 b.a3 ∷ product_of (pos 1) a.a3 b.a0 ∷ product_of (pos 1) a.a1 b.a2 ∷ product_of (pos 1) a.a2 b.a1 ∷ [])
 
+-- four numerators, then a denominator
+unfoldable pub fraction : Checked Whole → Checked Whole → Checked Whole → Checked Whole → Checked Whole → Checked Fraction4
+fraction c0 c1 c2 c3 d =
+    then c0 (λ c0. then c1 (λ c1. then c2 (λ c2. then c3 (λ c3. then d (λ d. give (record { d = d; a0 = c0; a1 = c1; a2 = c2; a3 = c3 }))))))
+
 -- the product, over d e
 unfoldable pub product : Fraction4 → Fraction4 → Checked Fraction4
-product a b =
-    then (product0 a b) (λ c0. then (product1 a b) (λ c1. then (product2 a b) (λ c2. then (product3 a b) (λ c3.
-    then (times a.d b.d) (λ d. give (record { d = d; a0 = c0; a1 = c1; a2 = c2; a3 = c3 }))))))
+product a b = fraction (product0 a b) (product1 a b) (product2 a b) (product3 a b) (times a.d b.d)
 
 -- x p + f y q
 unfoldable pub joined : Whole → Whole → Whole → Whole → Whole → Checked Whole
@@ -69,9 +71,7 @@ joined x p f y q = sum_of (product_of (pos 1) x p ∷ record { factor = f; x = y
 
 -- a q + f b p, over d q
 unfoldable pub sum_over : Whole → Fraction4 → Whole → Fraction4 → Whole → Checked Fraction4
-sum_over f a q b p =
-    then (joined a.a0 q f b.a0 p) (λ c0. then (joined a.a1 q f b.a1 p) (λ c1. then (joined a.a2 q f b.a2 p) (λ c2. then (joined a.a3 q f b.a3 p) (λ c3.
-    then (times a.d q) (λ d. give (record { d = d; a0 = c0; a1 = c1; a2 = c2; a3 = c3 }))))))
+sum_over f a q b p = fraction (joined a.a0 q f b.a0 p) (joined a.a1 q f b.a1 p) (joined a.a2 q f b.a2 p) (joined a.a3 q f b.a3 p) (times a.d q)
 
 -- a + f b for a sign f: with d and e the denominators and g their greatest common divisor, over d (e / g)
 abbrev pub sum : Whole → Fraction4 → Fraction4 → Checked Fraction4
@@ -95,15 +95,19 @@ norm u v = sum_of (product_of (pos 1) u u ∷ product_of (negsuc 1) v v ∷ [])
 unfoldable pub multiple : Whole → Product → Product → Checked Whole
 multiple d x y = then (sum_of (x ∷ y ∷ [])) (λ s. times d s)
 
+-- the numerators of the inverse by u and v, over the norm n
+unfoldable pub inverse_over : Fraction4 → Whole → Whole → Whole → Checked Fraction4
+inverse_over a u v n =
+    fraction
+    (multiple a.d (product_of (pos 1) a.a0 u) (product_of (negsuc 1) a.a1 v))
+    (multiple a.d (product_of (pos 1) a.a1 u) (product_of (negsuc 0) a.a0 v))
+    (multiple a.d (product_of (negsuc 0) a.a2 u) (product_of (pos 2) a.a3 v))
+    (multiple a.d (product_of (negsuc 0) a.a3 u) (product_of (pos 1) a.a2 v))
+    (give n)
+
 -- the inverse over the norm
 unfoldable pub inverse : Fraction4 → Checked Fraction4
-inverse a =
-    then (norm_u a) (λ u. then (norm_v a) (λ v. then (norm u v) (λ n.
-    then (multiple a.d (product_of (pos 1) a.a0 u) (product_of (negsuc 1) a.a1 v)) (λ c0.
-    then (multiple a.d (product_of (pos 1) a.a1 u) (product_of (negsuc 0) a.a0 v)) (λ c1.
-    then (multiple a.d (product_of (negsuc 0) a.a2 u) (product_of (pos 2) a.a3 v)) (λ c2.
-    then (multiple a.d (product_of (negsuc 0) a.a3 u) (product_of (pos 1) a.a2 v)) (λ c3.
-    give (record { d = n; a0 = c0; a1 = c1; a2 = c2; a3 = c3 }))))))))
+inverse a = then (norm_u a) (λ u. then (norm_v a) (λ v. then (norm u v) (λ n. inverse_over a u v n)))
 
 abbrev pub minus : Whole → Whole
 minus x = record { n = neg_ℤ x.n }

@@ -1,5 +1,5 @@
 -- What the formulas on four numerators over a denominator give.
-use Rattle.std.proofs.Common.{◌≡◌, ◌<◌, ◌*◌, ◌/◌, ℕ, zero, suc, refl, sym, ap, ◌∙◌, subst, arith, rules, ℤ, pos, negsuc, neg_ℤ, ◌+ℤ◌, ◌*ℤ◌, List, [], ◌∷◌, map, Bool, true, false}
+use Rattle.std.proofs.Common.{◌≡◌, ◌<◌, ◌*◌, ◌/◌, ℕ, zero, suc, refl, sym, ap, ◌∙◌, subst, arith, rules, ℤ, pos, negsuc, neg_ℤ, ◌+ℤ◌, ◌*ℤ◌, List, [], ◌∷◌, map, get_or, Bool, true, false}
 use Rattle.std.specs.Int.RustNames.{unsigned_abs}
 use Rattle.std.proofs.lemmas.Int.{ints}
 use Prim.Native.Nat.{◌∣◌}
@@ -48,7 +48,6 @@ over_narrow r h =
       narrow2 = quotient_narrow r.a2.n g h.narrow2;
       narrow3 = quotient_narrow r.a3.n g h.narrow3;
       narrow = quotient_narrow r.d.n g h.narrow;
-      positive = quotient_positive r.d.n g h.positive (common-divides (numerators4 r) (unsigned_abs r.d.n));
     }
 
 -- what is reduced is narrow
@@ -60,3 +59,9 @@ reduced_narrow r s g h e d a0 a1 a2 a3 =
     let n : unsigned_abs g.n ≡ common (numerators4 r) (unsigned_abs r.d.n) = ap (λ (w : Whole). unsigned_abs w.n) e in
     let parts : s ≡ over r (unsigned_abs g.n) = λ i. record { d = d i; a0 = a0 i; a1 = a1 i; a2 = a2 i; a3 = a3 i } in
     subst IsNarrow4 (sym (parts ∙ ap (over r) n)) (over_narrow r h)
+
+-- and over a denominator above 0
+pub reduced_positive : (r s : Fraction4) → is_positive r.d.n ≡ true → numbers4 s ≡ lowest_terms (numerators4 r) (unsigned_abs r.d.n) → is_positive s.d.n ≡ true
+reduced_positive r s h e =
+    let d : s.d.n ≡ pos (unsigned_abs r.d.n / common (numerators4 r) (unsigned_abs r.d.n)) = ap (λ xs. get_or xs 4 (pos 0)) e in
+    ap is_positive d ∙ quotient_positive (pos (unsigned_abs r.d.n)) (common (numerators4 r) (unsigned_abs r.d.n)) (positive_pos (unsigned_abs r.d.n) (positive_abs r.d.n h).0) (common-divides (numerators4 r) (unsigned_abs r.d.n))

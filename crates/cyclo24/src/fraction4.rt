@@ -1,9 +1,10 @@
 // Four numerators over a denominator, and the formulas of the field on them.
 ghost use Rattle.std.specs.Prelude.{◌≡◌, ◌<◌, pos, true, false, neg_ℤ};
 ghost use Rattle.std.specs.Int.RustNames.{unsigned_abs};
-ghost use Rattle.cyclo24.specs.Checked.{answer};
+ghost use Rattle.cyclo24.specs.Checked.{answer, is_wide};
 ghost use Rattle.cyclo24.specs.Gcd.{common, lowest_terms, all_zero};
-ghost use Rattle.cyclo24.specs.Written4.{numerators4, numbers4, IsNarrow4, product0, product1, product2, product3, product, joined, sum_over, sum, norm_u, norm_v, norm, multiple, inverse, negated};
+ghost use Rattle.cyclo24.specs.Listed.{is_positive};
+ghost use Rattle.cyclo24.specs.Written4.{numerators4, numbers4, IsNarrow4, product0, product1, product2, product3, product, joined, sum_over, sum, norm_u, norm_v, norm, multiple, inverse_over, inverse, negated, upright};
 
 use crate::Wide;
 use crate::whole::{Product, Whole, sum_of};
@@ -150,6 +151,34 @@ fn sum_over(
     Ok(Fraction4 { d, a0, a1, a2, a3 })
 }
 
+// The numerators of the inverse by u and v, over the norm n.
+#[rattlefmt::skip]
+fn inverse_over(a: Fraction4, u: Whole, v: Whole, n: Whole) -> Result<Fraction4, Wide>
+    ensures { result ≡ answer (inverse_over a u v n) }
+{
+    let a0 = multiple(
+        a.d,
+        Product { factor: Whole { n: 1 }, x: a.a0, y: u },
+        Product { factor: Whole { n: -2 }, x: a.a1, y: v },
+    )?;
+    let a1 = multiple(
+        a.d,
+        Product { factor: Whole { n: 1 }, x: a.a1, y: u },
+        Product { factor: Whole { n: -1 }, x: a.a0, y: v },
+    )?;
+    let a2 = multiple(
+        a.d,
+        Product { factor: Whole { n: -1 }, x: a.a2, y: u },
+        Product { factor: Whole { n: 2 }, x: a.a3, y: v },
+    )?;
+    let a3 = multiple(
+        a.d,
+        Product { factor: Whole { n: -1 }, x: a.a3, y: u },
+        Product { factor: Whole { n: 1 }, x: a.a2, y: v },
+    )?;
+    Ok(Fraction4 { d: n, a0, a1, a2, a3 })
+}
+
 impl Fraction4 {
     /// The product, before lowest terms.
     pub(crate) fn product(self, other: Fraction4) -> Result<Fraction4, Wide>
@@ -165,8 +194,9 @@ impl Fraction4 {
 
     /// The sum with a multiple of the other number by 1 or -1, before lowest terms.
     pub(crate) fn sum(self, factor: Whole, other: Fraction4) -> Result<Fraction4, Wide>
-        requires narrow { IsNarrow4 self }
-        requires narrow_other { IsNarrow4 other }
+        requires narrow { is_wide self.d.n ≡ false }
+        requires narrow_other { is_wide other.d.n ≡ false }
+        requires positive { is_positive other.d.n ≡ true }
         ensures { result ≡ answer (sum factor self other) }
     {
         let common = self.d.common(other.d);
@@ -175,40 +205,38 @@ impl Fraction4 {
         sum_over(factor, self, q, other, p)
     }
 
-    /// The inverse over the norm, whose sign is that of the norm, before lowest terms.
-    #[rattlefmt::skip]
+    /// The inverse over the norm, whose sign it has, before lowest terms.
     pub(crate) fn inverse(self) -> Result<Fraction4, Wide>
         ensures { result ≡ answer (inverse self) }
     {
         let u = norm_u(self)?;
         let v = norm_v(self)?;
-        let d = norm(u, v)?;
-        let a0 = multiple(
-            self.d,
-            Product { factor: Whole { n: 1 }, x: self.a0, y: u },
-            Product { factor: Whole { n: -2 }, x: self.a1, y: v },
-        )?;
-        let a1 = multiple(
-            self.d,
-            Product { factor: Whole { n: 1 }, x: self.a1, y: u },
-            Product { factor: Whole { n: -1 }, x: self.a0, y: v },
-        )?;
-        let a2 = multiple(
-            self.d,
-            Product { factor: Whole { n: -1 }, x: self.a2, y: u },
-            Product { factor: Whole { n: 2 }, x: self.a3, y: v },
-        )?;
-        let a3 = multiple(
-            self.d,
-            Product { factor: Whole { n: -1 }, x: self.a3, y: u },
-            Product { factor: Whole { n: 1 }, x: self.a2, y: v },
-        )?;
-        Ok(Fraction4 { d, a0, a1, a2, a3 })
+        let n = norm(u, v)?;
+        inverse_over(self, u, v, n)
+    }
+
+    /// The same number over a denominator above 0, where it isn't 0.
+    pub(crate) fn upright(self) -> Fraction4
+        requires { IsNarrow4 self }
+        ensures { result ≡ upright self }
+    {
+        if self.d.is_negative() {
+            Fraction4 {
+                d: self.d.negated(),
+                a0: self.a0.negated(),
+                a1: self.a1.negated(),
+                a2: self.a2.negated(),
+                a3: self.a3.negated(),
+            }
+        } else {
+            self
+        }
     }
 
     // What divides each number.
     fn content(self) -> Whole
-        requires { IsNarrow4 self }
+        requires narrow { IsNarrow4 self }
+        requires positive { is_positive self.d.n ≡ true }
         ensures value { result ≡ record { n = pos (common (numerators4 self) (unsigned_abs self.d.n)) } }
         ensures positive { 0 < unsigned_abs result.n }
     {
@@ -220,7 +248,8 @@ impl Fraction4 {
 
     /// The number in lowest terms.
     pub(crate) fn reduced(self) -> Fraction4
-        requires { IsNarrow4 self }
+        requires narrow { IsNarrow4 self }
+        requires positive { is_positive self.d.n ≡ true }
         ensures lowest { numbers4 result ≡ lowest_terms (numerators4 self) (unsigned_abs self.d.n) }
         ensures narrow { IsNarrow4 result }
     {

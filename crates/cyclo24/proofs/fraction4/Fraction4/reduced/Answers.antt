@@ -3,5 +3,5 @@ use Rattle.cyclo24.proofs.fraction4.Fraction4.reduced.Goals as goal
 
 pub returns-clause-narrow : goal.returns-clause-narrow
 returns-clause-narrow c =
-    reduced_narrow c.args.self (record { d = c.divided.result; a0 = c.divided-2.result; a1 = c.divided-3.result; a2 = c.divided-4.result; a3 = c.divided-5.result }) c.content-all.result c.requires
+    reduced_narrow c.args.self (record { d = c.divided.result; a0 = c.divided-2.result; a1 = c.divided-3.result; a2 = c.divided-4.result; a3 = c.divided-5.result }) c.content-all.result c.requires.narrow
     c.content-all.ensures.value c.divided.ensures c.divided-2.ensures c.divided-3.ensures c.divided-4.ensures c.divided-5.ensures
