@@ -28,3 +28,6 @@ pub mod FourLaws
 pub mod FourNorm
 pub mod Written4
 pub mod Written4Laws
+pub mod Written4Values
+pub mod ExactK24
+pub mod K24Laws
