@@ -31,3 +31,5 @@ pub mod Written4Laws
 pub mod Written4Values
 pub mod ExactK24
 pub mod K24Laws
+pub mod K24
+pub mod K24Order

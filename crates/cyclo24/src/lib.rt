@@ -6,6 +6,8 @@
 
 mod field;
 mod fraction4;
+mod k24;
 mod whole;
 
 pub use field::{Field, Wide};
+pub use k24::K24;
