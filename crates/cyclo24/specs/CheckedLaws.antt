@@ -9,7 +9,7 @@ use Rattle.std.proofs.lemmas.Int.{ints, to_z-of_z, to_z_pos}
 use Rattle.std.proofs.Common.{to_z, of_z}
 use Rattle.cyclo24.specs.Gcd.{gcd, quotient}
 use Rattle.cyclo24.specs.GcdLaws.{gcd_below}
-use Rattle.std.specs.Int.{w128}
+use Rattle.std.specs.Int.{w64, w128}
 use Rattle.std.proofs.lemmas.Int.{fits_signed_from_abs}
 use Rattle.std.proofs.lemmas.Bool.Decides.{nat_tests}
 use Rattle.std.specs.Int.RustNames.{unsigned_abs}
@@ -195,3 +195,14 @@ sum_err_plus s v w p ps e f = answer_then_ok (term p) (λ x. then (plus s x) (λ
 pub sum_end : (s : Whole) → answer (sum_from s []) ≡ Ok s
 unfolding sum_from
 sum_end s = answer_give s
+
+-- numbers of 64 bits
+pub narrow64 : (z : ℤ) → FitsSigned w64 z → is_wide z ≡ false
+narrow64 (pos n) h = below_wide (pos n) (le_trans h.sfits (lit≤ tt))
+narrow64 (negsuc n) h = below_wide (negsuc n) (omega (arith, h.sfits))
+
+pub kept64 : (z : ℤ) → FitsSigned w64 z → is_wide (to_z w128 (of_z w128 (to_z w64 (of_z w64 z)))) ≡ false
+kept64 z h = ap (λ (y : ℤ). is_wide (to_z w128 (of_z w128 y))) (to_z-of_z w64 z h) ∙ ap is_wide (to_z-of_z w128 z (fits_from_narrow z (narrow64 z h))) ∙ narrow64 z h
+
+pub kept128 : (z : ℤ) → FitsSigned w128 z → unsigned_abs z < 2 ^ 126 → is_wide (to_z w128 (of_z w128 z)) ≡ false
+kept128 z h k = ap is_wide (to_z-of_z w128 z h) ∙ below_wide z k

@@ -428,7 +428,7 @@ module _ {R : Type 0} (o : Ops R) (c : Content o) (h : IsContent o c) where
     is_nought-unit = false_unless unit unit_apart;
   }
 
-  is_ones : (k : ℕ) → Is (ones fractions k) (o.num k) (o.num 1)
+  pub is_ones : (k : ℕ) → Is (ones fractions k) (o.num k) (o.num 1)
   is_ones zero = is_nought
   is_ones (suc k) =
       let s = is_sum unit (ones fractions k) (o.num 1) (o.num 1) (o.num k) (o.num 1) is_unit (is_ones k) in

@@ -33,3 +33,8 @@ pub mod ExactK24
 pub mod K24Laws
 pub mod K24
 pub mod K24Order
+pub mod ExactNumerals
+pub mod K24Numbers
+pub mod NumberText
+pub mod TextK24
+pub mod TextLaws

@@ -7,6 +7,7 @@
 mod field;
 mod fraction4;
 mod k24;
+mod print;
 mod whole;
 
 pub use field::{Field, Wide};

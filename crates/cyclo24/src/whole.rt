@@ -1,5 +1,5 @@
 // Whole numbers in 128 bits, and sums of products that are refused where a written number is wide.
-ghost use Rattle.std.specs.Prelude.{◌≡◌, ◌<◌, pos, int_lt, false, neg_ℤ};
+ghost use Rattle.std.specs.Prelude.{◌≡◌, ◌<◌, ◌^◌, pos, int_lt, false, neg_ℤ};
 ghost use Rattle.std.specs.Int.RustNames.{unsigned_abs};
 ghost use Rattle.std.specs.Ordering.{int_eq};
 ghost use Rattle.cyclo24.specs.Gcd.{gcd, quotient};
@@ -43,6 +43,23 @@ fn euclid(a: u128, b: u128) -> u128
 }
 
 impl Whole {
+    /// A number of 64 bits.
+    pub(crate) fn small(n: i64) -> Whole
+        ensures value { result ≡ record { n = n } }
+        ensures narrow { is_wide result.n ≡ false }
+    {
+        Whole { n: n as i128 }
+    }
+
+    /// A number below 2^126 in absolute value.
+    pub(crate) fn of(n: i128) -> Whole
+        requires { unsigned_abs n < 2 ^ 126 }
+        ensures value { result ≡ record { n = n } }
+        ensures narrow { is_wide result.n ≡ false }
+    {
+        Whole { n }
+    }
+
     /// Whether it is 0.
     pub(crate) fn is_zero(self) -> bool
         ensures { result ≡ int_eq self.n (pos 0) }
@@ -55,6 +72,14 @@ impl Whole {
         ensures { result ≡ int_lt self.n (pos 0) }
     {
         self.n < 0
+    }
+
+    /// The absolute value.
+    pub(crate) fn magnitude(self) -> u128
+        requires { is_wide self.n ≡ false }
+        ensures { result ≡ unsigned_abs self.n }
+    {
+        self.n.unsigned_abs()
     }
 
     /// -x.
