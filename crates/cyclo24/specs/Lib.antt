@@ -38,3 +38,5 @@ pub mod K24Numbers
 pub mod NumberText
 pub mod TextK24
 pub mod TextLaws
+pub mod RealK24
+pub mod RootsK24

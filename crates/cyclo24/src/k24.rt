@@ -73,12 +73,20 @@ impl K24 {
         ensures numbers { (exact24 result).0 ≡ lowest_terms (n ∷ pos 0 ∷ pos 0 ∷ pos 0 ∷ []) (unsigned_abs d) }
         ensures value { k24_laws.times (exact24 result) (of_whole k24_laws d) ≡ of_whole k24_laws n }
     {
+        K24::of_parts(d, n, 0, 0, 0)
+    }
+
+    // The number (a0 + a1 r2 + a2 r3 + a3 r6) / d.
+    fn of_parts(d: i64, a0: i64, a1: i64, a2: i64, a3: i64) -> K24
+        requires { pos 0 <ℤ d }
+        ensures { (exact24 result).0 ≡ lowest_terms (a0 ∷ a1 ∷ a2 ∷ a3 ∷ []) (unsigned_abs d) }
+    {
         let fraction = Fraction4 {
             d: Whole::small(d),
-            a0: Whole::small(n),
-            a1: Whole { n: 0 },
-            a2: Whole { n: 0 },
-            a3: Whole { n: 0 },
+            a0: Whole::small(a0),
+            a1: Whole::small(a1),
+            a2: Whole::small(a2),
+            a3: Whole::small(a3),
         };
         K24 {
             fraction: fraction.reduced(),
@@ -159,3 +167,6 @@ impl Field for K24 {
 
     ghost value_cmp = { exact24_cmp };
 }
+
+#[cfg(test)]
+mod tests;

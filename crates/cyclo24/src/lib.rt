@@ -7,8 +7,10 @@
 mod field;
 mod fraction4;
 mod k24;
+mod laws;
 mod print;
 mod whole;
 
 pub use field::{Field, Wide};
 pub use k24::K24;
+pub use laws::{law_of_roots, law_of_squares};

@@ -1,11 +1,12 @@
-use Rattle.cyclo24.specs.K24Numbers.{whole_narrow, ratio_numbers, ratio_low, ratio_value}
+use Rattle.cyclo24.specs.K24.{exact24}
+use Rattle.cyclo24.specs.K24Numbers.{ratio_value, passed_list, passed_positive}
 use Rattle.cyclo24.proofs.k24.K24.ratio.Goals as goal
 
-pub reduced-requires-clause-narrow : goal.reduced-requires-clause-narrow
-reduced-requires-clause-narrow c = whole_narrow c.small-2.result c.small.result c.small-2.ensures.narrow c.small.ensures.narrow
+pub of_parts-requires : goal.of_parts-requires
+of_parts-requires c = passed_positive c.args.d c.ranges.d c.requires
 
-pub invariant_of-result : goal.invariant_of-result
-invariant_of-result c = record { narrow = c.reduced.ensures.narrow; lowest = ratio_low c.args.n c.args.d c.requires c.reduced.result (ratio_numbers c.args.n c.args.d c.small-2.result c.small.result c.reduced.result c.ranges.n c.ranges.d c.small-2.ensures.value c.small.ensures.value c.requires c.reduced.ensures.lowest) }
+pub returns-clause-numbers : goal.returns-clause-numbers
+returns-clause-numbers c = passed_list c.args.n c.args.d (exact24 c.of_parts.result).0 c.ranges.n c.ranges.d c.of_parts.ensures
 
 pub returns-clause-value : goal.returns-clause-value
-returns-clause-value c = ratio_value c.args.n c.args.d c.requires c.reduced.result (ratio_numbers c.args.n c.args.d c.small-2.result c.small.result c.reduced.result c.ranges.n c.ranges.d c.small-2.ensures.value c.small.ensures.value c.requires c.reduced.ensures.lowest) _
+returns-clause-value c = ratio_value c.args.n c.args.d c.requires (exact24 c.of_parts.result) (returns-clause-numbers c)

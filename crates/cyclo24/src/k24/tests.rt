@@ -1,0 +1,8 @@
+ghost use Rattle.std.specs.Prelude.{◌≡◌};
+
+use super::*;
+
+#[test]
+fn nothing(rt: HostRuntime) {
+    assert!(rt; true);
+}
