@@ -188,3 +188,35 @@ fn order_by_denominator_first(rt: HostRuntime) {
     assert!(rt; half < third);
     assert!(rt; number(&rt, [0, 0, 0, 1, 2]) < number(&rt, [0, 1, 0, 0, 2]));
 }
+
+// 1,000 sums and products of values with these numerators, for the count of instructions in `bench/`.
+fn measured(rt: &impl Abort, first: [i64; 5], second: [i64; 5]) -> Result<(), Wide> {
+    let x = number(rt, first);
+    let y = number(rt, second);
+    for _ in 0..1000 {
+        assert!(rt; x.add(y)? != x.mul(y)?);
+    }
+    Ok(())
+}
+
+#[test]
+fn measured_on_small_values(rt: HostRuntime) -> Result<(), Fail> {
+    measured(&rt, [120, -7, 911, 3, 1], [5, 16, -999, 41, 1])?;
+    Ok(())
+}
+
+#[test]
+fn measured_on_small_fractions(rt: HostRuntime) -> Result<(), Fail> {
+    measured(&rt, [120, -7, 911, 3, 12], [5, 16, -999, 41, 8])?;
+    Ok(())
+}
+
+#[test]
+fn measured_near_2_to_60(rt: HostRuntime) -> Result<(), Fail> {
+    measured(
+        &rt,
+        [1 << 60, -(1 << 59) - 1, 1 << 58, (1 << 60) - 1, 1],
+        [(1 << 60) - 7, 1 << 57, (1 << 60) + 5, -(1 << 60), 1],
+    )?;
+    Ok(())
+}
