@@ -40,3 +40,5 @@ pub mod TextK24
 pub mod TextLaws
 pub mod RealK24
 pub mod RootsK24
+pub mod Short
+pub mod ShortLaws

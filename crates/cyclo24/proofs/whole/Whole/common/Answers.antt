@@ -11,13 +11,13 @@ use Rattle.cyclo24.proofs.whole.Whole.common.Goals as goal
 
 pub overflow_cast-result : goal.overflow_cast-result
 overflow_cast-result c =
-    let e = common_is c.args.self.n c.args.other.n c.unsigned_abs.result c.unsigned_abs-2.result c.euclid.result c.requires.narrow c.requires.narrow_other c.euclid.ensures c.unsigned_abs.ensures.value c.unsigned_abs-2.ensures.value in
+    let e = common_is c.args.self.n c.args.other.n c.unsigned_abs.result c.unsigned_abs-2.result c.greatest_common.result c.requires.narrow c.requires.narrow_other c.greatest_common.ensures c.unsigned_abs.ensures.value c.unsigned_abs-2.ensures.value in
     let P : ℕ → Type 0 = λ n. FitsSigned w128 (pos n) in
     subst P (sym e) (small_fits _ (common_below c.args.self.n c.args.other.n c.requires.narrow c.requires.narrow_other))
 
 pub returns-clause-value : goal.returns-clause-value
 returns-clause-value c =
-    let e = common_is c.args.self.n c.args.other.n c.unsigned_abs.result c.unsigned_abs-2.result c.euclid.result c.requires.narrow c.requires.narrow_other c.euclid.ensures c.unsigned_abs.ensures.value c.unsigned_abs-2.ensures.value in
+    let e = common_is c.args.self.n c.args.other.n c.unsigned_abs.result c.unsigned_abs-2.result c.greatest_common.result c.requires.narrow c.requires.narrow_other c.greatest_common.ensures c.unsigned_abs.ensures.value c.unsigned_abs-2.ensures.value in
     let whole : ℤ → Whole = λ z. record { n = z } in
     ap (λ n. whole (to_z w128 n)) e ∙ ap whole (small_is _ (common_below c.args.self.n c.args.other.n c.requires.narrow c.requires.narrow_other))
 
