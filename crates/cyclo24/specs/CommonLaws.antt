@@ -1,6 +1,7 @@
 -- What divides all of a list of whole numbers.
 --
 -- over_one: numerators and a denominator that nothing divides are in lowest terms
+-- lowest-one: over 1
 -- list-lower: the list of a fraction in lowest terms
 -- content_of_is: the content of members that are lists of whole numbers obeys the laws of a content
 use Rattle.std.proofs.Common.{◌≡◌, ◌≢◌, ℕ, zero, suc, ◌+◌, ◌*◌, ◌/◌, ◌<◌, ◌≤◌, refl, sym, ap, ◌∙◌, subst, arith, ℤ, pos, negsuc, ◌*ℤ◌, neg_ℤ, List, [], ◌∷◌, ◌++◌, map, length, Bool, true, false}
@@ -10,7 +11,7 @@ use Rattle.std.specs.Cmp.{signed_Decides}
 use Prim.Native.Nat.{◌∣◌}
 use Rattle.std.specs.Int.RustNames.{unsigned_abs}
 use Rattle.std.proofs.lemmas.Int.{ints, unsigned_abs-mul}
-use Rattle.std.proofs.Math.Nat.{mul-div_cancel', dvd_trans, dvd_refl, pos_of_dvd_of_pos}
+use Rattle.std.proofs.Math.Nat.{eq-one_of_dvd-one, mul-div_cancel', dvd_trans, dvd_refl, pos_of_dvd_of_pos}
 use borrow.Author.Differences.{up, down, product_is, same_in, same_out}
 use Rattle.cyclo24.specs.Ring.{Ops}
 use Rattle.cyclo24.specs.Gcd.{gcd, common, quotient, lowest_terms, all_zero}
@@ -81,6 +82,13 @@ pub over_one : (xs : List ℤ) (d : ℕ) → common xs d ≡ 1 → lowest_terms 
 over_one xs d e =
     let whole : d / 1 ≡ d = omega arith in
     ap (λ g. map (λ z. quotient z g) xs ++ pos (d / g) ∷ []) e ∙ (λ i. quotients-one xs i ++ pos (whole i) ∷ [])
+
+pub common-one : (xs : List ℤ) → common xs 1 ≡ 1
+common-one xs = eq-one_of_dvd-one (common-divides xs 1)
+
+-- over 1
+pub lowest-one : (xs : List ℤ) → lowest_terms xs 1 ≡ xs ++ pos 1 ∷ []
+lowest-one xs = over_one xs 1 (common-one xs)
 
 zeros : (xs : List ℤ) → all_zero xs ≡ true → xs ≡ map (λ z. pos 0 *ℤ z) xs
 zeros [] e = refl

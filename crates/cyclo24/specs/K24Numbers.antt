@@ -17,10 +17,10 @@ use Rattle.cyclo24.specs.WholeRing.{whole}
 use Rattle.cyclo24.specs.FourNorm.{whole4, four, four_is, list4}
 use Rattle.cyclo24.specs.FractionLaws.{lower}
 use Rattle.cyclo24.specs.Numerators.{content_of}
-use Rattle.cyclo24.specs.CommonLaws.{content_of_is}
+use Rattle.cyclo24.specs.CommonLaws.{content_of_is, lowest-one}
 use Rattle.cyclo24.specs.Listed.{is_exact, is_positive}
 use Rattle.cyclo24.specs.ListedLaws.{listed, listed-lower, exact-lower, same_exact}
-use Rattle.cyclo24.specs.ExactNumerals.{ones-is, neg_ones-is, quotient-is, lowest-one}
+use Rattle.cyclo24.specs.ExactNumerals.{ones-is, neg_ones-is, quotient-is}
 use Rattle.cyclo24.specs.FractionLaws.{one_positive}
 use Rattle.cyclo24.specs.Numerals.{of_whole}
 use Rattle.cyclo24.specs.Checked.{is_wide}

@@ -42,3 +42,4 @@ pub mod RealK24
 pub mod RootsK24
 pub mod Short
 pub mod ShortLaws
+pub mod Short4

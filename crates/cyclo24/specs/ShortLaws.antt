@@ -188,3 +188,7 @@ two_answer p q x h k e = narrow_answer (sum_of (p ∷ q ∷ [])) x (short_two_na
 
 pub four_answer : (p q r s : Product) (x : Whole) → IsShortProduct p → IsShortProduct q → IsShortProduct r → IsShortProduct s → x ≡ (sum_of (p ∷ q ∷ r ∷ s ∷ [])).value → Ok x ≡ answer (sum_of (p ∷ q ∷ r ∷ s ∷ []))
 four_answer p q r s x h k l m e = narrow_answer (sum_of (p ∷ q ∷ r ∷ s ∷ [])) x (short_four_narrow p q r s h k l m) e
+
+pub short_below : (z : ℤ) → is_short z ≡ true → unsigned_abs z < 2 ^ 28
+unfolding is_short
+short_below z h = grind (arith, nat_tests)

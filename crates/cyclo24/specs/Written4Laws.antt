@@ -7,7 +7,9 @@ use Rattle.std.proofs.Math.Nat.{mul-div_cancel'}
 use Rattle.cyclo24.specs.declared.whole.Whole.{Whole}
 use Rattle.cyclo24.specs.declared.fraction4.Fraction4.{Fraction4}
 use Rattle.cyclo24.specs.Gcd.{gcd, common, quotient, lowest_terms}
-use Rattle.cyclo24.specs.CommonLaws.{common-divides}
+use Rattle.cyclo24.specs.CommonLaws.{common-divides, over_one, lowest-one}
+use Rattle.std.specs.Ordering.{int_eq}
+use Rattle.std.specs.Cmp.{signed_Decides}
 use Rattle.cyclo24.specs.Listed.{is_positive}
 use Rattle.cyclo24.specs.ListedLaws.{positive_abs}
 use Rattle.cyclo24.specs.Checked.{Checked, answer, is_wide}
@@ -65,3 +67,15 @@ pub reduced_positive : (r s : Fraction4) → is_positive r.d.n ≡ true → numb
 reduced_positive r s h e =
     let d : s.d.n ≡ pos (unsigned_abs r.d.n / common (numerators4 r) (unsigned_abs r.d.n)) = ap (λ xs. get_or xs 4 (pos 0)) e in
     ap is_positive d ∙ quotient_positive (pos (unsigned_abs r.d.n)) (common (numerators4 r) (unsigned_abs r.d.n)) (positive_pos (unsigned_abs r.d.n) (positive_abs r.d.n h).0) (common-divides (numerators4 r) (unsigned_abs r.d.n))
+
+-- over 1 nothing is divided
+pub reduced_over_one : (r : Fraction4) → int_eq r.d.n (pos 1) ≡ true → numbers4 r ≡ lowest_terms (numerators4 r) (unsigned_abs r.d.n)
+reduced_over_one r h =
+    let e : r.d.n ≡ pos 1 = (signed_Decides r.d.n (pos 1)).0 h in
+    ap (λ z. r.a0.n ∷ r.a1.n ∷ r.a2.n ∷ r.a3.n ∷ z ∷ []) e ∙ sym (lowest-one (numerators4 r)) ∙ ap (λ z. lowest_terms (numerators4 r) (unsigned_abs z)) (sym e)
+
+-- nor where nothing divides all
+pub reduced_by_one : (r : Fraction4) (g : Whole) → is_positive r.d.n ≡ true → g ≡ record { n = pos (common (numerators4 r) (unsigned_abs r.d.n)) } → int_eq g.n (pos 1) ≡ true → numbers4 r ≡ lowest_terms (numerators4 r) (unsigned_abs r.d.n)
+reduced_by_one r g p e h =
+    let one : common (numerators4 r) (unsigned_abs r.d.n) ≡ 1 = ap unsigned_abs (ap (λ (w : Whole). w.n) (sym e) ∙ (signed_Decides g.n (pos 1)).0 h) in
+    ap (λ z. r.a0.n ∷ r.a1.n ∷ r.a2.n ∷ r.a3.n ∷ z ∷ []) (positive_abs r.d.n p).1 ∙ sym (over_one (numerators4 r) (unsigned_abs r.d.n) one)
