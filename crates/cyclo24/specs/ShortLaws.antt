@@ -4,7 +4,7 @@
 -- pair_fits, short_pair_is: the sum of two products
 -- short_sum_narrow: in a sum of short products no written number is wide
 use Rattle.std.proofs.Common.{◌≡◌, ℕ, suc, zero, ◌+◌, ◌*◌, ◌^◌, ◌<◌, ◌≤◌, Bool, true, false, arith, rules, ℤ, pos, ◌+ℤ◌, ◌*ℤ◌, refl, le_trans, lit≤, List, [], ◌∷◌, length, ap, ◌∙◌, sym, subst, to_z, of_z, mul-le-mul}
-use Rattle.std.specs.Prelude.{FitsSigned, ◌||◌}
+use Rattle.std.specs.Prelude.{FitsSigned, ◌||◌, ◌<ℤ◌, negsuc}
 use Rattle.std.proofs.lemmas.Int.{ints, to_z-of_z, fits_signed_from_abs, unsigned_abs-mul}
 use Rattle.std.specs.Int.{w64, w128}
 use Rattle.std.specs.Int.RustNames.{unsigned_abs}
@@ -192,3 +192,23 @@ four_answer p q r s x h k l m e = narrow_answer (sum_of (p ∷ q ∷ r ∷ s ∷
 pub short_below : (z : ℤ) → is_short z ≡ true → unsigned_abs z < 2 ^ 28
 unfolding is_short
 short_below z h = grind (arith, nat_tests)
+
+-- the product of two short numbers
+one_term : (x y : Whole) → unsigned_abs x.n < 2 ^ 28 → unsigned_abs y.n < 2 ^ 28 → IsShortProduct (record { factor = record { n = pos 1 }; x = x; y = y })
+one_term x y h k = record { factor = lit≤ tt; x = h; y = k }
+
+pub short_product : (x y : Whole) → (unsigned_abs x.n < 2 ^ 28) × (unsigned_abs y.n < 2 ^ 28) → IsShortProduct (record { factor = record { n = pos 1 }; x = x; y = y })
+short_product x y h = one_term x y h.0 h.1
+
+pub product_answer : (x y w : Whole) → (unsigned_abs x.n < 2 ^ 28) × (unsigned_abs y.n < 2 ^ 28) → w ≡ (term (record { factor = record { n = pos 1 }; x = x; y = y })).value → Ok w ≡ answer (times x y)
+unfolding term then
+product_answer x y w h e =
+    let p : Product = record { factor = record { n = pos 1 }; x = x; y = y } in
+    let over : ℤ → Whole = λ z. record { n = z } in
+    narrow_answer (times x y) w (or_false (is_wide (x.n *ℤ y.n)) false (narrow_by (x.n *ℤ y.n) (2 ^ 56) (product_size p (short_product x y h)) (lit≤ tt)) refl)
+    (e ∙ ap over (let one : pos 1 *ℤ (x.n *ℤ y.n) ≡ x.n *ℤ y.n = omega (arith, ints) in one))
+
+-- the test by two comparisons
+pub short_between : (z : ℤ) → negsuc 268435455 <ℤ z → z <ℤ pos 268435456 → is_short z ≡ true
+unfolding is_short
+short_between z h k = let e : unsigned_abs z < 2 ^ 28 = omega (arith, ints) in grind (arith, nat_tests)

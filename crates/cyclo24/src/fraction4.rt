@@ -8,7 +8,7 @@ ghost use Rattle.cyclo24.specs.Short4.{IsShort4, AreShort4, AreShortTwo, AreShor
 ghost use Rattle.cyclo24.specs.Written4.{numerators4, numbers4, IsNarrow4, product0, product1, product2, product3, product, joined, sum_over, sum, norm_u, norm_v, norm, multiple, inverse_over, inverse, negated, upright};
 
 use crate::Wide;
-use crate::whole::{Product, Whole, sum_of, sum_of_four, sum_of_two};
+use crate::whole::{Product, Whole, product_of_two, sum_of, sum_of_four, sum_of_two};
 
 /// The number (a0 + a1 r2 + a2 r3 + a3 r6) / d. It compares by d, then by the numerators.
 #[derive(Clone, Copy, Debug, PartialEq, Eq, PartialOrd, Ord, Hash)]
@@ -160,7 +160,7 @@ fn sum_over(
     let a1 = joined(short, a.a1, q, factor, b.a1, p)?;
     let a2 = joined(short, a.a2, q, factor, b.a2, p)?;
     let a3 = joined(short, a.a3, q, factor, b.a3, p)?;
-    let d = a.d.times(q)?;
+    let d = product_of_two(short, a.d, q)?;
     Ok(Fraction4 { d, a0, a1, a2, a3 })
 }
 
@@ -218,7 +218,7 @@ impl Fraction4 {
         let a1 = product1(short, self, other)?;
         let a2 = product2(short, self, other)?;
         let a3 = product3(short, self, other)?;
-        let d = self.d.times(other.d)?;
+        let d = product_of_two(short, self.d, other.d)?;
         Ok(Fraction4 { d, a0, a1, a2, a3 })
     }
 

@@ -15,7 +15,7 @@ const LEAST_WIDE: u128 = 1 << 126;
 const LEAST_LONG: u128 = 1 << 64;
 
 /// The least absolute value that isn't short.
-const LEAST_NOT_SHORT: u128 = 1 << 28;
+const LEAST_NOT_SHORT: i128 = 1 << 28;
 
 /// A whole number of 128 bits.
 #[derive(Clone, Copy, Debug, PartialEq, Eq, PartialOrd, Ord, Hash)]
@@ -108,11 +108,11 @@ impl Whole {
     }
 
     /// Whether its absolute value is below 2^28.
-    #[tactic(auto, unfolding(crate::specs::Short::is_short))]
+    #[tactic(auto, unfolding(crate::specs::Short::is_short), using(crate::specs::ShortLaws::short_between))]
     pub(crate) fn is_short(self) -> bool
         ensures { result ≡ is_short self.n }
     {
-        self.n.unsigned_abs() < LEAST_NOT_SHORT
+        -LEAST_NOT_SHORT < self.n && self.n < LEAST_NOT_SHORT
     }
 
     /// Whether it is below 0.
@@ -246,6 +246,22 @@ fn short_four(p: Product, q: Product, r: Product, s: Product) -> Whole
     let second = short_pair(r, s);
     Whole {
         n: first.n + second.n,
+    }
+}
+
+/// The product, unless it is wide. `short` may say that both numbers are short; it isn't wide then.
+pub(crate) fn product_of_two(short: bool, x: Whole, y: Whole) -> Result<Whole, Wide>
+    requires { short ≡ true → (unsigned_abs x.n < 2 ^ 28) × (unsigned_abs y.n < 2 ^ 28) }
+    ensures { result ≡ answer (times x y) }
+{
+    if short {
+        Ok(short_term(Product {
+            factor: Whole { n: 1 },
+            x,
+            y,
+        }))
+    } else {
+        x.times(y)
     }
 }
 
