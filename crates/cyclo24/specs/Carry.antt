@@ -2,7 +2,7 @@
 --
 -- Same A B: a bijection
 -- carried f s: the field f on the other type; carried-real, carried-ones: what it keeps
-use Rattle.std.proofs.Common.{◌≡◌, ℕ, suc, zero, ◌<◌, Bool, true, false, refl, sym, ◌∙◌, ap}
+use Rattle.std.proofs.Common.{◌≡◌, ℕ, suc, zero, sym, ◌∙◌, ap}
 use Rattle.cyclo24.specs.FieldOn.{FieldOn, ones}
 use Rattle.cyclo24.specs.Sums.{total, IsReal}
 

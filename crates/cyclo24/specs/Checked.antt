@@ -8,7 +8,7 @@
 -- term p: a product, and then the product with its factor
 -- product_of f x y: the product x y with the factor f
 -- sum_of ps: a sum of products from left to right
-use Rattle.std.specs.Prelude.{◌≡◌, ℕ, ◌^◌, Bool, true, false, cond, nat_le, Result, Ok, Err, ℤ, pos, ◌+ℤ◌, ◌*ℤ◌, List, [], ◌∷◌, ◌++◌, ◌||◌}
+use Rattle.std.specs.Prelude.{◌^◌, Bool, false, cond, nat_le, Result, Ok, Err, ℤ, pos, ◌+ℤ◌, ◌*ℤ◌, List, [], ◌∷◌, ◌++◌, ◌||◌}
 use Rattle.std.specs.Int.RustNames.{unsigned_abs}
 use Rattle.cyclo24.specs.declared.field.Wide.{Wide}
 use Rattle.cyclo24.specs.declared.whole.Whole.{Whole}

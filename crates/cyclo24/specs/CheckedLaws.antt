@@ -3,7 +3,7 @@
 -- below_wide, at_least_wide, narrow_abs: is_wide by the absolute value
 -- then_ok, then_err, answer_give: the answer of a computation in steps
 -- answer_ok, answer_err: what an answer says of the written numbers
-use Rattle.std.proofs.Common.{◌≡◌, ℕ, ◌^◌, ◌<◌, ◌≤◌, Bool, true, false, arith, rules, ℤ, refl, le_trans, lit≤, List, [], ◌∷◌, ◌++◌, ap, ◌∙◌, sym, subst, Result, Ok, Err, cond}
+use Rattle.std.proofs.Common.{◌≡◌, ℕ, ◌^◌, ◌<◌, ◌≤◌, Bool, true, false, arith, ℤ, refl, le_trans, lit≤, List, [], ◌∷◌, ◌++◌, ap, ◌∙◌, sym, Result, Ok, Err, cond}
 use Rattle.std.specs.Prelude.{FitsSigned, ◌||◌, pos, negsuc, ◌-ℤ◌, ◌+ℤ◌, ◌*ℤ◌, neg_ℤ, suc, ◌/◌}
 use Rattle.std.proofs.lemmas.Int.{ints, to_z-of_z, to_z_pos}
 use Rattle.std.proofs.Common.{to_z, of_z}

@@ -4,7 +4,7 @@
 -- lowest-one: over 1
 -- list-lower: the list of a fraction in lowest terms
 -- content_of_is: the content of members that are lists of whole numbers obeys the laws of a content
-use Rattle.std.proofs.Common.{◌≡◌, ◌≢◌, ℕ, zero, suc, ◌+◌, ◌*◌, ◌/◌, ◌<◌, ◌≤◌, refl, sym, ap, ◌∙◌, subst, arith, ℤ, pos, negsuc, ◌*ℤ◌, neg_ℤ, List, [], ◌∷◌, ◌++◌, map, length, Bool, true, false}
+use Rattle.std.proofs.Common.{◌≡◌, ◌≢◌, ℕ, zero, suc, ◌+◌, ◌*◌, ◌/◌, ◌<◌, refl, sym, ap, ◌∙◌, arith, ℤ, pos, negsuc, ◌*ℤ◌, neg_ℤ, List, [], ◌∷◌, ◌++◌, map, length, Bool, true, false}
 use Rattle.std.specs.Prelude.{◌&&◌}
 use Rattle.std.specs.Ordering.{int_eq}
 use Rattle.std.specs.Cmp.{signed_Decides}
@@ -18,7 +18,7 @@ use Rattle.cyclo24.specs.Gcd.{gcd, common, quotient, lowest_terms, all_zero}
 use Rattle.cyclo24.specs.BoolLaws.{and_left, and_right}
 use Rattle.cyclo24.specs.Solve.{zero_mul}
 use Rattle.cyclo24.specs.GcdLaws.{gcd_is, gcd_scale}
-use Rattle.cyclo24.specs.Fraction.{Content, IsContent}
+use Rattle.cyclo24.specs.Fraction.{IsContent}
 use Rattle.cyclo24.specs.FractionLaws.{lower}
 use Rattle.cyclo24.specs.Numerators.{Numerators, IsNumerators, content_of}
 

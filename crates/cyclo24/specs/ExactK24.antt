@@ -3,7 +3,7 @@
 -- k24_laws: the field of these lists
 -- is_wide_sum24, is_wide_difference24, is_wide_product24, is_wide_inverse24: some number of the formula is wide
 -- k24: the field with its order and its wide operations
-use Rattle.std.specs.Prelude.{ℤ, pos, negsuc, Bool}
+use Rattle.std.specs.Prelude.{pos, negsuc, Bool}
 use Rattle.cyclo24.specs.FieldOn.{FieldOn}
 use Rattle.cyclo24.specs.ExactField.{Exact, ExactField}
 use Rattle.cyclo24.specs.Listed.{is_exact, exact_cmp}

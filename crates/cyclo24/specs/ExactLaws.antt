@@ -2,22 +2,20 @@
 --
 -- low n x: the denominator of an exact value as a number
 -- plus-is, neg-is, times-is, inverse-is: the operations as lists in lowest terms
-use Rattle.std.proofs.Common.{◌≡◌, ℕ, zero, suc, ◌+◌, ◌*◌, ◌/◌, ◌<◌, refl, sym, ap, ◌∙◌, subst, arith, ℤ, pos, negsuc, ◌+ℤ◌, ◌*ℤ◌, neg_ℤ, List, [], ◌∷◌, ◌++◌, map, length, Bool, true, false}
+use Rattle.std.proofs.Common.{◌≡◌, ℕ, zero, suc, ◌*◌, ◌/◌, ◌<◌, refl, sym, ap, ◌∙◌, subst, arith, ℤ, pos, ◌+ℤ◌, ◌*ℤ◌, neg_ℤ, List, [], ◌∷◌, ◌++◌, map}
 use Rattle.std.specs.Int.RustNames.{unsigned_abs}
-use Prim.Native.Nat.{◌∣◌}
 use Rattle.std.proofs.Math.Nat.{mul-div_cancel'}
 use Rattle.std.proofs.lemmas.Int.{ints}
 use Rattle.cyclo24.specs.Ring.{Ops}
 use Rattle.cyclo24.specs.ExactField.{Exact}
-use Rattle.cyclo24.specs.Gcd.{gcd, common, lowest_terms, all_zero}
+use Rattle.cyclo24.specs.Gcd.{gcd, common, lowest_terms}
 use Rattle.cyclo24.specs.GcdLaws.{gcd_is}
-use Rattle.cyclo24.specs.WholeRing.{mul_commℤ}
 use Rattle.cyclo24.specs.Fraction.{Fraction}
-use Rattle.cyclo24.specs.FractionLaws.{lower, sum_over, same_parts, mul_positive, inverse_over, nought, unit, one_positive, above_zero}
+use Rattle.cyclo24.specs.FractionLaws.{sum_over, mul_positive, inverse_over, one_positive, above_zero}
 use Rattle.cyclo24.specs.Numerators.{Numerators, IsNumerators, content_of, zip_with}
-use Rattle.cyclo24.specs.CommonLaws.{content_of_is, list-lower, over_one}
+use Rattle.cyclo24.specs.CommonLaws.{content_of_is, over_one}
 use Rattle.cyclo24.specs.Listed.{numerators, denominator, is_exact}
-use Rattle.cyclo24.specs.ListedLaws.{listed, from-top, from-low, exact_laws, listed-lower, exact_is, length-front, same_exact}
+use Rattle.cyclo24.specs.ListedLaws.{listed, from-top, from-low, exact_laws, listed-lower, exact_is, length-front}
 
 -- the denominator as a number
 abbrev pub low : (n : ℕ) → List ℤ → ℕ

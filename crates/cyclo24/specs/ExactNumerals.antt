@@ -2,23 +2,20 @@
 --
 -- of_whole-is: the whole number z is the list of z over 1
 -- quotient-is: x / d times d is x
-use Rattle.std.proofs.Common.{◌≡◌, ℕ, zero, suc, ◌+◌, ◌*◌, ◌/◌, ◌<◌, refl, sym, ap, ◌∙◌, subst, arith, ℤ, pos, negsuc, neg_ℤ, List, [], ◌∷◌, ◌++◌, map, length, take, get_or}
+use Rattle.std.proofs.Common.{◌≡◌, ℕ, ◌<◌, refl, sym, ap, ◌∙◌, pos, neg_ℤ, [], ◌∷◌, ◌++◌, map}
 use Rattle.std.specs.Int.RustNames.{unsigned_abs}
-use Prim.Native.Nat.{◌∣◌}
 use Rattle.cyclo24.specs.Ring.{Ops}
 use Rattle.cyclo24.specs.Solve.{V, K, Mul, solve, at}
-use Rattle.cyclo24.specs.FieldOn.{FieldOn, ones}
+use Rattle.cyclo24.specs.FieldOn.{ones}
 use Rattle.cyclo24.specs.ExactField.{Exact}
-use Rattle.cyclo24.specs.Gcd.{common, lowest_terms}
-use Rattle.cyclo24.specs.Fraction.{Fraction}
+use Rattle.cyclo24.specs.Gcd.{lowest_terms}
 use Rattle.cyclo24.specs.FractionLaws.{fractions, lower, is_lower, is_times, is_ones, same_from_is, one_positive, times}
 use Rattle.cyclo24.specs.Numerators.{Numerators, IsNumerators, content_of}
 use Rattle.cyclo24.specs.CommonLaws.{content_of_is, lowest-one}
-use Rattle.cyclo24.specs.Listed.{numerators, denominator, is_exact}
+use Rattle.cyclo24.specs.Listed.{numerators, is_exact}
 use Rattle.cyclo24.specs.ListedLaws.{listed, listed-lower, exact_laws, take-last, get_or-last}
 use Rattle.cyclo24.specs.Carry.{carried-ones}
 use Rattle.cyclo24.specs.ExactLaws.{neg-is, low}
-use Rattle.cyclo24.specs.Numerals.{of_whole}
 
 module _ {R : Type 0} (o : Ops R) (m : Numerators o) (h : IsNumerators o m) where
   ones-lower : (n : ℕ) → ones (exact_laws o m h) n ≡ (listed o m h).to (lower o (content_of m) (content_of_is o m h) (o.num n) 1 (one_positive o (content_of m) (content_of_is o m h)))

@@ -5,7 +5,7 @@
 -- four_ring: these numbers are a commutative ring
 -- mul4_adj: a (adj4 a) is the norm
 -- scaled: multiples, coefficient by coefficient
-use Rattle.std.proofs.Common.{◌≡◌, ℕ, ◌+◌, suc, zero, refl, sym, List, [], ◌∷◌, true}
+use Rattle.std.proofs.Common.{◌≡◌, ℕ, suc, refl, sym, [], ◌∷◌, true}
 use Rattle.cyclo24.specs.Ring.{Ops, IsRing}
 use Rattle.cyclo24.specs.Four.{Four, mul4, add4, neg4, num4, norm4, adj4, four_ops}
 use Rattle.cyclo24.specs.Solve.{Exp, V, K, Mul, exps, solve, same, value, at}

@@ -3,10 +3,10 @@
 -- norm_zero: the norm is zero at zero alone, since the square roots of 2 and 3 are no fractions
 -- four: such numbers as the list of their coefficients
 -- four_is: its laws
-use Rattle.std.proofs.Common.{◌≡◌, ℕ, zero, suc, ◌+◌, ◌*◌, ◌<◌, refl, sym, ap, ◌∙◌, arith, ℤ, pos, negsuc, ◌+ℤ◌, ◌*ℤ◌, neg_ℤ, List, [], ◌∷◌, length, get_or, map}
+use Rattle.std.proofs.Common.{◌≡◌, suc, ◌+◌, ◌*◌, refl, sym, ap, ◌∙◌, arith, ℤ, pos, negsuc, ◌+ℤ◌, ◌*ℤ◌, neg_ℤ, List, [], ◌∷◌, length, get_or}
 use Rattle.std.specs.Int.RustNames.{unsigned_abs}
 use Rattle.std.proofs.lemmas.Int.{ints, unsigned_abs-mul}
-use Rattle.cyclo24.specs.Ring.{Ops, IsRing}
+use Rattle.cyclo24.specs.Ring.{Ops}
 use Rattle.cyclo24.specs.Solve.{mul_neg}
 use Rattle.cyclo24.specs.WholeRing.{whole, whole_ring}
 use Rattle.cyclo24.specs.Four.{Four, mul4, num4, neg4, norm4, adj4, norm_u, norm_v, four_ops}

@@ -5,13 +5,12 @@
 -- nought, unit, minus, sum, times, inverse: the operations; is_minus, is_sum, is_times: what they are
 -- sum_over: a sum over a common multiple of the denominators
 -- fractions: the field
-use Rattle.std.proofs.Common.{◌≡◌, ◌≢◌, ℕ, zero, suc, ◌+◌, ◌*◌, ◌/◌, ◌<◌, ◌≤◌, refl, sym, ap, ◌∙◌, subst, arith, List, [], ◌∷◌, Bool, true, false}
-use Prim.Native.Nat.{◌∣◌}
+use Rattle.std.proofs.Common.{◌≡◌, ◌≢◌, ℕ, zero, suc, ◌*◌, ◌/◌, ◌<◌, refl, sym, ap, ◌∙◌, subst, arith, [], ◌∷◌, true, false}
 use Rattle.std.proofs.Math.Nat.{mul-div_cancel', mul_comm}
 use mathlib.Core.HLevel.{is_prop→PathP}
 use native.Mathlib.Nat.{ℕ_set}
 use Rattle.std.specs.Coded.{le_prop}
-use Rattle.cyclo24.specs.Ring.{Ops, IsRing}
+use Rattle.cyclo24.specs.Ring.{Ops}
 use Rattle.cyclo24.specs.FieldOn.{FieldOn, ones}
 use Rattle.cyclo24.specs.Fraction.{Content, IsContent, Fraction}
 use Rattle.cyclo24.specs.Solve.{Exp, V, K, Neg, Add, Mul, by_test, solve, num_mul, at}

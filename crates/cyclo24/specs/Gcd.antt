@@ -5,7 +5,7 @@
 -- quotient z g: the whole number z over g, cut towards 0
 -- lowest_terms xs d: the numerators xs over d in lowest terms, then the denominator
 -- all_zero xs: each of xs is 0
-use Rattle.std.specs.Prelude.{ℕ, zero, suc, ◌%◌, ◌/◌, ℤ, pos, negsuc, neg_ℤ, List, [], ◌∷◌, ◌++◌, map, Bool, true, ◌&&◌}
+use Rattle.std.specs.Prelude.{ℕ, zero, suc, ◌%◌, ◌/◌, ℤ, pos, negsuc, neg_ℤ, List, [], ◌∷◌, ◌++◌, map, Bool}
 use Rattle.std.specs.Ordering.{int_eq}
 use Rattle.std.specs.List.{list_all}
 use Rattle.std.specs.Int.RustNames.{unsigned_abs}

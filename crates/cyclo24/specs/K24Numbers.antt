@@ -2,7 +2,7 @@
 --
 -- whole_list: the whole number z is z, 0, 0, 0, 1
 -- parts_of x d p: the exact value of four numerators over d; ratio24: n / d times d is n
-use Rattle.std.proofs.Common.{◌≡◌, ◌<◌, ℕ, zero, suc, refl, sym, ap, ◌∙◌, subst, arith, rules, ℤ, pos, negsuc, neg_ℤ, List, [], ◌∷◌, map, true, false, lit≤}
+use Rattle.std.proofs.Common.{◌≡◌, ◌<◌, ℕ, suc, sym, ap, ◌∙◌, subst, arith, rules, ℤ, pos, negsuc, List, [], ◌∷◌, true, false, lit≤}
 use Rattle.std.specs.Prelude.{◌<ℤ◌, FitsSigned}
 use Rattle.std.proofs.Common.{to_z, of_z}
 use Rattle.std.specs.Int.{w64, w128}
@@ -10,7 +10,6 @@ use Rattle.std.specs.Int.RustNames.{unsigned_abs}
 use Rattle.std.proofs.lemmas.Int.{ints, to_z-of_z}
 use Rattle.cyclo24.specs.declared.whole.Whole.{Whole}
 use Rattle.cyclo24.specs.declared.fraction4.Fraction4.{Fraction4}
-use Rattle.cyclo24.specs.FieldOn.{ones}
 use Rattle.cyclo24.specs.Gcd.{lowest_terms}
 use Rattle.cyclo24.specs.Four.{Four, num4}
 use Rattle.cyclo24.specs.WholeRing.{whole}
@@ -18,8 +17,8 @@ use Rattle.cyclo24.specs.FourNorm.{whole4, four, four_is, list4}
 use Rattle.cyclo24.specs.FractionLaws.{lower}
 use Rattle.cyclo24.specs.Numerators.{content_of}
 use Rattle.cyclo24.specs.CommonLaws.{content_of_is, lowest-one}
-use Rattle.cyclo24.specs.Listed.{is_exact, is_positive}
-use Rattle.cyclo24.specs.ListedLaws.{listed, listed-lower, exact-lower, same_exact}
+use Rattle.cyclo24.specs.Listed.{is_positive}
+use Rattle.cyclo24.specs.ListedLaws.{listed, listed-lower, same_exact}
 use Rattle.cyclo24.specs.ExactNumerals.{ones-is, neg_ones-is, quotient-is}
 use Rattle.cyclo24.specs.FractionLaws.{one_positive}
 use Rattle.cyclo24.specs.Numerals.{of_whole}

@@ -3,7 +3,7 @@
 -- is_exact n x: the list x is n numerators and a denominator above 0 without a common divisor
 -- numerators n x, denominator n x: the parts of such a list
 -- exact_cmp n: the order by denominator, then numerators
-use Rattle.std.specs.Prelude.{◌≡◌, ℕ, suc, ◌<◌, ℤ, pos, negsuc, List, [], ◌∷◌, ◌++◌, length, take, get_or, Bool, true, false, ◌&&◌, nat_eq, nat_lt}
+use Rattle.std.specs.Prelude.{ℕ, suc, ℤ, pos, negsuc, List, length, take, get_or, Bool, false, ◌&&◌, nat_eq, nat_lt}
 use Rattle.std.specs.Int.RustNames.{unsigned_abs}
 use Rattle.std.specs.declared.cmp.Ordering.{Ordering}
 use Rattle.std.specs.Ordering.{int_cmp, on, then_cmp}

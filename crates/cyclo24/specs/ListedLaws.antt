@@ -6,23 +6,22 @@
 -- listed-lower, exact-lower: the exact value of x / d is its list in lowest terms
 -- from-top, from-low, is_nought-is: the parts of an exact value
 -- exact_cmp_total, exact_cmp-Equal: the order is total, and ties are equal
-use Rattle.std.proofs.Common.{◌≡◌, ℕ, zero, suc, ◌+◌, ◌<◌, ◌≤◌, refl, sym, ap, ◌∙◌, subst, arith, rules, ℤ, pos, negsuc, List, [], ◌∷◌, ◌++◌, length, take, get_or, Bool, true, false, nat_eq}
+use Rattle.std.proofs.Common.{◌≡◌, ℕ, zero, suc, ◌<◌, refl, sym, ap, ◌∙◌, subst, arith, rules, ℤ, pos, negsuc, List, [], ◌∷◌, ◌++◌, length, take, get_or, Bool, true, false, nat_eq}
 use Rattle.std.specs.Prelude.{◌&&◌}
 use Rattle.std.specs.Int.RustNames.{unsigned_abs}
 use Rattle.std.proofs.Math.Bool.{Bool-set}
-use Rattle.std.proofs.lemmas.Int.{ints}
 use mathlib.Core.HLevel.{is_prop→PathP}
 use Rattle.std.specs.declared.cmp.Ordering.{Ordering}
 use Rattle.std.specs.declared.cmp.Ordering.TheVariants.{Less, Equal, Greater}
 use Rattle.std.specs.Cmp.{IsTotalOrder, then_total, on_total, int_cmp_total, signed_Decides}
 use Rattle.std.specs.Cmp.Lexicographic.{slice_cmp, lists_total}
-use Rattle.std.specs.Ordering.{ordering_then, int_cmp, is_eq, on, then_cmp}
+use Rattle.std.specs.Ordering.{ordering_then, int_cmp, is_eq}
 use Rattle.cyclo24.specs.BoolLaws.{and_left, and_right, and_both}
 use Rattle.cyclo24.specs.Ring.{Ops}
 use Rattle.cyclo24.specs.ExactField.{Exact}
 use Rattle.cyclo24.specs.FieldOn.{FieldOn, ones}
 use Rattle.cyclo24.specs.Gcd.{common, lowest_terms, all_zero}
-use Rattle.cyclo24.specs.Fraction.{Content, Fraction}
+use Rattle.cyclo24.specs.Fraction.{Fraction}
 use Rattle.cyclo24.specs.FractionLaws.{lower, fractions, same_parts, ones-not_nought}
 use Rattle.cyclo24.specs.Numerators.{Numerators, IsNumerators, content_of}
 use Rattle.cyclo24.specs.CommonLaws.{content_of_is, list-lower}

@@ -4,7 +4,7 @@
 -- part_text n d unit: the multiple n/d of a unit, where the empty text is the unit 1
 -- signed_text first d z unit: the multiple z/d in lowest terms with its sign, nothing where z is 0
 -- number_text d zs units: the sum of the multiples of all units, `0` where all are 0
-use Rattle.std.specs.Prelude.{◌≡◌, ℕ, ◌/◌, ℤ, pos, List, [], ◌∷◌, ◌++◌, Bool, true, false, cond, codes, nat_eq, ◌&&◌, length, int_lt}
+use Rattle.std.specs.Prelude.{ℕ, ◌/◌, ℤ, pos, List, [], ◌∷◌, ◌++◌, Bool, true, cond, codes, nat_eq, ◌&&◌, length, int_lt}
 use Rattle.std.specs.Fmt.{decimal}
 use Rattle.std.specs.Ordering.{int_eq}
 use Rattle.std.specs.Int.RustNames.{unsigned_abs}

@@ -2,9 +2,9 @@
 --
 -- ring_of_is f: the ring of a field is a commutative ring, so `solve (ring_of f) (ring_of_is f)` proves its equations
 -- of-plus, of-times: sums and products of whole numbers
-use Rattle.std.proofs.Common.{◌≡◌, ℕ, suc, zero, ◌+◌, ◌*◌, refl, sym, ◌∙◌, ap, arith, ℤ, pos, negsuc, neg_ℤ, ◌+ℤ◌, ◌*ℤ◌, List, [], ◌∷◌}
+use Rattle.std.proofs.Common.{◌≡◌, ℕ, suc, zero, ◌+◌, ◌*◌, refl, sym, ◌∙◌, ap, arith, ℤ, pos, negsuc, neg_ℤ, ◌+ℤ◌, ◌*ℤ◌, [], ◌∷◌}
 use Rattle.std.proofs.lemmas.Int.{ints}
-use Rattle.cyclo24.specs.Ring.{Ops, IsRing}
+use Rattle.cyclo24.specs.Ring.{IsRing}
 use Rattle.cyclo24.specs.Solve.{V, K, Add, Mul, Neg, solve, num_add, num_mul, at}
 use Rattle.cyclo24.specs.FieldOn.{FieldOn, ones}
 use Rattle.cyclo24.specs.Numerals.{of_whole, ring_of}

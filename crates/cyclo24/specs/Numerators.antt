@@ -3,7 +3,7 @@
 -- zip_with f xs ys: f of the numbers of both lists at each place
 -- Numerators o: members of the ring o as lists of whole numbers, and IsNumerators its laws
 -- content_of m: what divides a member and a number is what divides each number of its list
-use Rattle.std.specs.Prelude.{◌≡◌, ◌≢◌, ℕ, ◌*◌, ◌<◌, ℤ, pos, ◌*ℤ◌, ◌+ℤ◌, neg_ℤ, List, [], ◌∷◌, map, length}
+use Rattle.std.specs.Prelude.{◌≡◌, ◌≢◌, ℕ, ◌<◌, ℤ, pos, ◌*ℤ◌, ◌+ℤ◌, neg_ℤ, List, [], ◌∷◌, map, length}
 use Rattle.cyclo24.specs.Ring.{Ops, IsRing}
 use Rattle.cyclo24.specs.Gcd.{common, quotient, all_zero}
 use Rattle.cyclo24.specs.Fraction.{Content}

@@ -2,7 +2,7 @@
 --
 -- root2: u² = 2 v² holds at zero alone
 -- root3: (a + b r2)² = 3 (c + d r2)² holds at zero alone
-use Rattle.std.proofs.Common.{◌≡◌, ℕ, zero, suc, ◌+◌, ◌*◌, ◌/◌, ◌%◌, ◌<◌, ◌≤◌, ◌⊎◌, inl, inr, refl, sym, ap, ◌∙◌, subst, arith}
+use Rattle.std.proofs.Common.{◌≡◌, ℕ, zero, suc, ◌+◌, ◌*◌, ◌<◌, refl, ap, arith}
 
 -- how a number stands to the multiples of 3
 data By3 (n : ℕ) : Type 0 where

@@ -2,7 +2,7 @@
 --
 -- r2, r3, r6: their exact values
 -- r2_square, r3_square, r2-times-r3: r2 r2 = 2, r3 r3 = 3, r2 r3 = r6
-use Rattle.std.proofs.Common.{◌≡◌, ◌∙◌, sym, refl, ℤ, pos, List, [], ◌∷◌, true}
+use Rattle.std.proofs.Common.{◌≡◌, ◌∙◌, refl, pos, [], ◌∷◌, true}
 use Rattle.cyclo24.specs.Gcd.{gcd}
 use Rattle.cyclo24.specs.Numerals.{of_whole}
 use Rattle.cyclo24.specs.FourNorm.{whole4, four, four_is}

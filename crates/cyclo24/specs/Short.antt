@@ -2,7 +2,7 @@
 --
 -- is_short z: an absolute value below 2^28
 -- IsShortProduct p: both numbers are short, and the factor is at most 8 in absolute value
-use Rattle.std.specs.Prelude.{◌≡◌, ◌≤◌, ◌<◌, ◌^◌, ℤ, Bool, nat_lt}
+use Rattle.std.specs.Prelude.{◌≤◌, ◌<◌, ◌^◌, ℤ, Bool, nat_lt}
 use Rattle.std.specs.Int.RustNames.{unsigned_abs}
 use Rattle.cyclo24.specs.declared.whole.Product.{Product}
 

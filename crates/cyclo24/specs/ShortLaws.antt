@@ -3,16 +3,15 @@
 -- factor_fits, short_term_is: the product in 64 bits
 -- pair_fits, short_pair_is: the sum of two products
 -- short_sum_narrow: in a sum of short products no written number is wide
-use Rattle.std.proofs.Common.{◌≡◌, ℕ, suc, zero, ◌+◌, ◌*◌, ◌^◌, ◌<◌, ◌≤◌, Bool, true, false, arith, rules, ℤ, pos, ◌+ℤ◌, ◌*ℤ◌, refl, le_trans, lit≤, List, [], ◌∷◌, length, ap, ◌∙◌, sym, subst, to_z, of_z, mul-le-mul}
+use Rattle.std.proofs.Common.{◌≡◌, ℕ, ◌+◌, ◌*◌, ◌^◌, ◌<◌, ◌≤◌, Bool, true, false, arith, ℤ, pos, ◌+ℤ◌, ◌*ℤ◌, refl, le_trans, lit≤, List, [], ◌∷◌, length, ap, ◌∙◌, sym, subst, to_z, of_z, mul-le-mul}
 use Rattle.std.specs.Prelude.{FitsSigned, ◌||◌, ◌<ℤ◌, negsuc}
 use Rattle.std.proofs.lemmas.Int.{ints, to_z-of_z, fits_signed_from_abs, unsigned_abs-mul}
 use Rattle.std.specs.Int.{w64, w128}
 use Rattle.std.specs.Int.RustNames.{unsigned_abs}
 use Rattle.std.proofs.lemmas.Bool.Decides.{nat_tests}
-use Rattle.cyclo24.specs.declared.field.Wide.{Wide}
 use Rattle.cyclo24.specs.declared.whole.Whole.{Whole}
 use Rattle.cyclo24.specs.declared.whole.Product.{Product}
-use Rattle.std.proofs.Common.{Result, Ok, Err, cond}
+use Rattle.std.proofs.Common.{Ok, Err, cond}
 use Rattle.cyclo24.specs.Checked.{is_wide, any_wide, answer, Checked, then, times, plus, term, sum_from, sum_of}
 use Rattle.cyclo24.specs.CheckedLaws.{below_wide, any_wide-append}
 use Rattle.cyclo24.specs.Short.{is_short, IsShortProduct}

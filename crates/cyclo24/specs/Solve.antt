@@ -7,7 +7,7 @@
 use Rattle.std.proofs.Common.{◌≡◌, ℕ, ◌+◌, ◌*◌, suc, zero, arith, refl, sym, ap, ◌∙◌, Bool, true, false, List, [], ◌∷◌, subst, eqb, leb, ltb}
 use Rattle.std.proofs.Common.{eqb→eq}
 use Rattle.std.proofs.Math.Dec.{T}
-use Rattle.std.proofs.Math.Nat.{add_assoc, add-suc, mul-suc, zero-add, zero-mul, suc-mul}
+use Rattle.std.proofs.Math.Nat.{zero-add}
 use Rattle.cyclo24.specs.Ring.{Ops, IsRing}
 
 -- expressions

@@ -4,12 +4,12 @@
 -- all-nought, one-term: sums of zeros, and with one term that isn't zero
 -- total-append, total-rows: sums in two pieces, and row by row
 -- renumbered: a sum in another order
-use Rattle.std.proofs.Common.{◌≡◌, ℕ, suc, zero, ◌+◌, ◌*◌, ◌<◌, ◌≤◌, ◌⊎◌, inl, inr, Bool, true, false, refl, sym, ◌∙◌, ap, subst, arith, nat_eq, if◌then◌else◌}
+use Rattle.std.proofs.Common.{◌≡◌, ℕ, suc, zero, ◌+◌, ◌*◌, ◌<◌, ◌≤◌, ◌⊎◌, inl, inr, true, false, sym, ◌∙◌, ap, subst, arith, nat_eq, if◌then◌else◌}
 use Rattle.std.proofs.lemmas.Bool.Decides.{eqb_tells}
 use Rattle.cyclo24.specs.FieldOn.{FieldOn}
 use Rattle.cyclo24.specs.Sums.{total, where_is, IsRenumbering}
-use Rattle.cyclo24.specs.FieldLaws.{nought-plus, times-nought, nought-times}
-use Rattle.cyclo24.specs.TotalLaws.{total-same, total-nought, total-plus, total-times, times-total, total-swap}
+use Rattle.cyclo24.specs.FieldLaws.{nought-plus}
+use Rattle.cyclo24.specs.TotalLaws.{total-same, total-nought, total-swap}
 
 pub decide : (k n : ℕ) → (k ≡ n) ⊎ (k ≡ n → ⊥)
 decide k n = elim (eqb_tells k n) [ inl h ↦ inl h.1 | inr h ↦ inr h.1 ]

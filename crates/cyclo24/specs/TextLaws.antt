@@ -2,7 +2,7 @@
 --
 -- alone, bare, scaled: of the unit 1, a unit alone, and a multiple of a unit
 -- nothing, signed: where the multiple is 0, and where it isn't
-use Rattle.std.proofs.Common.{◌≡◌, ℕ, zero, suc, refl, ap, ◌∙◌, sym, List, [], ◌∷◌, ◌++◌, append_assoc, Bool, true, false, arith, rules, nat_eq, length}
+use Rattle.std.proofs.Common.{◌≡◌, ℕ, ap, ◌∙◌, sym, List, [], ◌++◌, append_assoc, Bool, true, false, nat_eq, length}
 use Rattle.std.specs.Prelude.{codes, cond, ◌&&◌}
 use Rattle.std.specs.Ordering.{int_eq}
 use Rattle.std.specs.Int.RustNames.{unsigned_abs}

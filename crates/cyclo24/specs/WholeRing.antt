@@ -2,11 +2,11 @@
 --
 -- whole: the operations on whole numbers
 -- whole_ring: they are a commutative ring
-use Rattle.std.proofs.Common.{◌≡◌, ℕ, ◌+◌, ◌*◌, suc, zero, arith, refl, sym, ap, ◌∙◌}
-use Rattle.std.proofs.Math.IntN.{ℤ, pos, negsuc, ◌+ℤ◌, ◌-ℤ◌, ◌*ℤ◌, neg_ℤ}
+use Rattle.std.proofs.Common.{◌≡◌, ℕ, ◌*◌, suc, arith, ap}
+use Rattle.std.proofs.Math.IntN.{ℤ, pos, ◌+ℤ◌, ◌*ℤ◌, neg_ℤ}
 use Rattle.std.proofs.lemmas.Int.{ints}
 use Rattle.cyclo24.specs.Ring.{Ops, IsRing}
-use borrow.Author.Differences.{up, down, product_is, sum_is_lem, neg_is, same_in}
+use borrow.Author.Differences.{up, down, product_is, sum_is_lem}
 
 pub add_assocℤ : (a b c : ℤ) → (a +ℤ b) +ℤ c ≡ a +ℤ (b +ℤ c)
 add_assocℤ a b c = omega (arith, ints)

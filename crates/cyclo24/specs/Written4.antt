@@ -6,7 +6,7 @@
 -- fraction c0 c1 c2 c3 d: four numerators, then a denominator
 -- product, sum, inverse: the formulas, before lowest terms and with the sign of the norm
 -- negated, upright: with all signs changed, always or where the denominator is below 0
-use Rattle.std.specs.Prelude.{◌≡◌, ℕ, ℤ, pos, negsuc, neg_ℤ, List, [], ◌∷◌, get_or, true, false, cond, int_lt}
+use Rattle.std.specs.Prelude.{◌≡◌, ℕ, ℤ, pos, negsuc, neg_ℤ, List, [], ◌∷◌, get_or, false, cond, int_lt}
 use Rattle.std.specs.Int.RustNames.{unsigned_abs}
 use Rattle.cyclo24.specs.declared.whole.Whole.{Whole}
 use Rattle.cyclo24.specs.declared.whole.Product.{Product}

@@ -1,7 +1,6 @@
 -- What the formulas on four numerators over a denominator give.
-use Rattle.std.proofs.Common.{◌≡◌, ◌<◌, ◌*◌, ◌/◌, ℕ, zero, suc, refl, sym, ap, ◌∙◌, subst, arith, rules, ℤ, pos, negsuc, neg_ℤ, ◌+ℤ◌, ◌*ℤ◌, List, [], ◌∷◌, map, get_or, Bool, true, false}
+use Rattle.std.proofs.Common.{◌≡◌, ◌<◌, ◌*◌, ◌/◌, ℕ, zero, suc, sym, ap, ◌∙◌, subst, arith, rules, ℤ, pos, negsuc, [], ◌∷◌, get_or, true}
 use Rattle.std.specs.Int.RustNames.{unsigned_abs}
-use Rattle.std.proofs.lemmas.Int.{ints}
 use Prim.Native.Nat.{◌∣◌}
 use Rattle.std.proofs.Math.Nat.{mul-div_cancel'}
 use Rattle.cyclo24.specs.declared.whole.Whole.{Whole}
@@ -12,7 +11,7 @@ use Rattle.std.specs.Ordering.{int_eq}
 use Rattle.std.specs.Cmp.{signed_Decides}
 use Rattle.cyclo24.specs.Listed.{is_positive}
 use Rattle.cyclo24.specs.ListedLaws.{positive_abs}
-use Rattle.cyclo24.specs.Checked.{Checked, answer, is_wide}
+use Rattle.cyclo24.specs.Checked.{answer}
 use Rattle.cyclo24.specs.CheckedLaws.{quotient_narrow}
 use Rattle.cyclo24.specs.Written4.{numbers4, numerators4, IsNarrow4, sum_over, sum}
 

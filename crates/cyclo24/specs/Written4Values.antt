@@ -2,7 +2,7 @@
 --
 -- product_value, sum_value, inverse_value: the numerators and the denominator that are answered
 -- product_narrow, sum_narrow, inverse_narrow: no number of an answer is wide
-use Rattle.std.proofs.Common.{◌≡◌, ◌<◌, ◌*◌, ◌/◌, ℕ, zero, suc, refl, sym, ap, ◌∙◌, subst, arith, rules, ℤ, pos, negsuc, neg_ℤ, ◌+ℤ◌, ◌*ℤ◌, List, [], ◌∷◌, map, Bool, true, false}
+use Rattle.std.proofs.Common.{◌≡◌, refl, sym, ap, ◌∙◌, subst, arith, ℤ, pos, negsuc, neg_ℤ, ◌+ℤ◌, ◌*ℤ◌, List, [], ◌∷◌, false}
 use Rattle.std.proofs.lemmas.Int.{ints}
 use Rattle.cyclo24.specs.declared.whole.Whole.{Whole}
 use Rattle.cyclo24.specs.declared.whole.Product.{Product}
@@ -11,9 +11,9 @@ use Rattle.cyclo24.specs.WholeRing.{whole}
 use Rattle.cyclo24.specs.Four.{Four, mul4}
 use Rattle.cyclo24.specs.Four as Fours
 use Rattle.cyclo24.specs.FourNorm.{list4}
-use Rattle.cyclo24.specs.Checked.{Checked, any_wide, is_wide, then, give, written, times, term, product_of, sum_of, sum_from}
+use Rattle.cyclo24.specs.Checked.{Checked, any_wide, is_wide, then, give, times, term, product_of, sum_of, sum_from}
 use Rattle.cyclo24.specs.CheckedLaws.{then_narrow, written_narrow, sum_of_narrow}
-use Rattle.cyclo24.specs.Written4.{numbers4, numerators4, four_of, IsNarrow4, fraction, product0, product1, product2, product3, product, joined, sum_over, norm_u, norm_v, norm, multiple, inverse_over, inverse}
+use Rattle.cyclo24.specs.Written4.{numerators4, four_of, IsNarrow4, fraction, product0, product1, product2, product3, product, joined, sum_over, norm_u, norm_v, norm, multiple, inverse_over, inverse}
 
 -- an answered number is narrow
 abbrev IsKept : Checked Whole → Type 0

@@ -1,6 +1,6 @@
-use Rattle.std.proofs.Common.{rules, ◌∙◌, sym}
+use Rattle.std.proofs.Common.{rules}
 use Rattle.cyclo24.specs.Written4.{multiple}
-use Rattle.cyclo24.specs.CheckedLaws.{then_ok, then_err, answer_give}
+use Rattle.cyclo24.specs.CheckedLaws.{then_ok, then_err}
 use Rattle.cyclo24.proofs.fraction4.multiple.Goals as goal
 
 pub returns-in_err-sum : goal.returns-in_err-sum

@@ -1,4 +1,4 @@
-use Rattle.std.proofs.Common.{rules, arith}
+use Rattle.std.proofs.Common.{arith}
 use Rattle.std.proofs.lemmas.Int.{to_z-of_z}
 use Rattle.cyclo24.specs.CheckedLaws.{narrow_answer, wide_answer_by_size}
 use Rattle.cyclo24.proofs.whole.narrow.Goals as goal

@@ -1,10 +1,9 @@
-use Rattle.std.proofs.Common.{rules, ◌≡◌, ◌∙◌, sym, ap, drop, get_or, length, arith, List, [], ◌∷◌, ℕ, ◌+◌, ◌<◌, ◌≤◌, suc, pos, Result, Ok, Err}
+use Rattle.std.proofs.Common.{rules, ◌≡◌, ◌∙◌, sym, ap, drop, get_or, length, arith, List, ◌∷◌, ℕ, ◌+◌, ◌<◌, ◌≤◌, suc, pos, Ok}
 use Rattle.std.proofs.Math.Seq.{drop-cons}
 use Rattle.std.proofs.Math.ListN.{drop_of_length-le}
-use Rattle.cyclo24.specs.declared.field.Wide.{Wide}
 use Rattle.cyclo24.specs.declared.whole.Whole.{Whole}
 use Rattle.cyclo24.specs.declared.whole.Product.{Product}
-use Rattle.cyclo24.specs.Checked.{answer, sum_from, sum_of, term, plus}
+use Rattle.cyclo24.specs.Checked.{answer, sum_from}
 use Rattle.cyclo24.specs.CheckedLaws.{sum_step, sum_err_term, sum_err_plus, sum_end}
 use Rattle.cyclo24.proofs.whole.sum_of.Goals as goal
 

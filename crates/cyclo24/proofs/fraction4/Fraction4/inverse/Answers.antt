@@ -1,6 +1,6 @@
-use Rattle.std.proofs.Common.{rules, refl, ◌∙◌, sym}
+use Rattle.std.proofs.Common.{rules}
 use Rattle.cyclo24.specs.Written4.{inverse}
-use Rattle.cyclo24.specs.CheckedLaws.{then_ok, then_err, answer_give}
+use Rattle.cyclo24.specs.CheckedLaws.{then_ok, then_err}
 use Rattle.cyclo24.proofs.fraction4.Fraction4.inverse.Goals as goal
 
 pub returns-in_err-u : goal.returns-in_err-u

@@ -1,5 +1,4 @@
-use Rattle.std.proofs.Common.{rules, ◌∙◌, sym, ap}
-use Rattle.std.specs.Int.RustNames.{unsigned_abs}
+use Rattle.std.proofs.Common.{◌∙◌}
 use Rattle.cyclo24.specs.ListedLaws.{positive_abs}
 use Rattle.cyclo24.specs.Written4Laws.{sum_by}
 use Rattle.cyclo24.proofs.fraction4.Fraction4.sum.Goals as goal

@@ -1,7 +1,6 @@
-use Rattle.std.proofs.Common.{rules, refl, ◌≡◌, ◌∙◌, sym, ap, subst, arith, pos, negsuc}
-use Rattle.cyclo24.specs.declared.fraction4.Fraction4.{Fraction4}
+use Rattle.std.proofs.Common.{rules, ◌∙◌, sym, negsuc}
 use Rattle.cyclo24.specs.CheckedLaws.{answer_ok, answer_err}
-use Rattle.cyclo24.specs.Written4.{sum, product, inverse, upright, negated, numbers4}
+use Rattle.cyclo24.specs.Written4.{sum}
 use Rattle.cyclo24.specs.ExactK24.{k24_laws}
 use Rattle.cyclo24.specs.K24Laws.{exact_of, made_low, made_value, sum_ready, difference24}
 use Rattle.cyclo24.proofs.k24.K24Field.sub.Goals as goal

@@ -1,5 +1,5 @@
-use Rattle.std.proofs.Common.{rules, arith, ◌≡◌, ◌∙◌, sym}
-use Rattle.cyclo24.specs.Checked.{answer, times, plus, term}
+use Rattle.std.proofs.Common.{rules}
+use Rattle.cyclo24.specs.Checked.{term}
 use Rattle.cyclo24.specs.CheckedLaws.{then_ok, then_err}
 use Rattle.cyclo24.proofs.whole.Product.value.Goals as goal
 

@@ -1,4 +1,4 @@
-use Rattle.std.proofs.Common.{rules, arith, ap, ◌∙◌, sym, subst, pos, to_z}
+use Rattle.std.proofs.Common.{ap, ◌∙◌, sym, subst, pos, to_z}
 use Rattle.std.specs.Prelude.{ℤ, ℕ, FitsSigned}
 use Rattle.std.specs.Int.{w128}
 use Rattle.std.specs.Int.RustNames.{unsigned_abs}

@@ -1,4 +1,4 @@
-use Rattle.std.proofs.Common.{rules, arith, to_z, of_z, ap}
+use Rattle.std.proofs.Common.{ap}
 use Rattle.std.proofs.lemmas.Int.{to_z-of_z}
 use Rattle.cyclo24.specs.declared.whole.Whole.{Whole}
 use Rattle.std.specs.Prelude.{ℤ}
