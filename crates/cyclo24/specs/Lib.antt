@@ -1,5 +1,14 @@
 pub mod FieldOn
 pub mod ExactField
+pub mod Eight
+pub mod EightLaws
+pub mod EightNorm
+pub mod FractionMaps
+pub mod ExactMaps
+pub mod Z24
+pub mod Z24Laws
+pub mod Z24Parts
+pub mod Z24Roots
 pub mod BoolLaws
 pub mod Ring
 pub mod Solve
