@@ -9,6 +9,8 @@ pub mod Z24
 pub mod Z24Laws
 pub mod Z24Parts
 pub mod Z24Roots
+pub mod Written8
+pub mod Written8Laws
 pub mod BoolLaws
 pub mod Ring
 pub mod Solve

@@ -9,6 +9,7 @@ mod fraction4;
 mod k24;
 mod laws;
 mod print;
+mod fraction8;
 mod whole;
 
 pub use field::{Field, Wide};
