@@ -5,7 +5,7 @@ pub mod EightLaws
 pub mod EightNorm
 pub mod FractionMaps
 pub mod ExactMaps
-pub mod Z24
+pub mod ExactZ24
 pub mod Z24Laws
 pub mod Z24Parts
 pub mod Z24Roots

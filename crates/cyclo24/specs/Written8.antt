@@ -2,7 +2,8 @@
 --
 -- numbers8 r: the numerators and then the denominator; numerators8 r, eight_of r: the numerators
 -- fraction8_of x: the list x as numerators and denominator
--- IsNarrow8 r: no number is wide, and the denominator is above 0
+-- IsNarrow8 r: no number is wide
+-- fraction8 c0 .. c7 d: eight numerators, then a denominator
 -- dot xs ys: the sum of the products of two lists, place by place
 -- product, sum, conjugate, real, imaginary, from_four: the formulas, before lowest terms
 -- negated: with all signs changed
@@ -13,8 +14,8 @@ use Rattle.cyclo24.specs.declared.fraction4.Fraction4.{Fraction4}
 use Rattle.cyclo24.specs.declared.fraction8.Fraction8.{Fraction8}
 use Rattle.cyclo24.specs.declared.fraction8.High.{High}
 use Rattle.cyclo24.specs.Gcd.{gcd, quotient}
-use Rattle.cyclo24.specs.Listed.{is_positive}
 use Rattle.cyclo24.specs.Eight.{Eight}
+use Rattle.cyclo24.specs.Written4.{fraction}
 use Rattle.cyclo24.specs.Checked.{Checked, is_wide, then, give, times, plus}
 
 abbrev pub numerators8 : Fraction8 → List ℤ
@@ -44,7 +45,7 @@ fraction8_of x = record {
   c7 = whole_at x 7;
 }
 
--- no number is wide, and the denominator is above 0
+-- no number is wide
 pub record IsNarrow8 (r : Fraction8) : Type 0 where
   pub narrow0 : is_wide r.c0.n ≡ false
   pub narrow1 : is_wide r.c1.n ≡ false
@@ -55,7 +56,6 @@ pub record IsNarrow8 (r : Fraction8) : Type 0 where
   pub narrow6 : is_wide r.c6.n ≡ false
   pub narrow7 : is_wide r.c7.n ≡ false
   pub narrow : is_wide r.d.n ≡ false
-  pub positive : is_positive r.d.n ≡ true
 
 -- a whole number
 abbrev pub num : ℤ → Whole
@@ -91,19 +91,25 @@ less_two xs ys x y = then (dot xs ys) (λ s. dot (num (pos 1) ∷ num (negsuc 0)
 unfoldable pub and_one : List Whole → List Whole → Whole → Whole → Checked Whole
 and_one xs ys sign x = then (dot xs ys) (λ s. dot (num (pos 1) ∷ sign ∷ []) (s ∷ x ∷ []))
 
+-- eight numerators, then a denominator
+unfoldable pub fraction8 : Checked Whole → Checked Whole → Checked Whole → Checked Whole → Checked Whole → Checked Whole → Checked Whole → Checked Whole → Checked Whole → Checked Fraction8
+fraction8 c0 c1 c2 c3 c4 c5 c6 c7 d =
+    then c0 (λ c0. then c1 (λ c1. then c2 (λ c2. then c3 (λ c3. then c4 (λ c4. then c5 (λ c5. then c6 (λ c6. then c7 (λ c7. then d (λ d.
+    give (record { d = d; c0 = c0; c1 = c1; c2 = c2; c3 = c3; c4 = c4; c5 = c5; c6 = c6; c7 = c7 }))))))))))
+
 -- the coefficients of the product by those of degree 8 to 14, and the product of the denominators
 unfoldable pub low : Fraction8 → Fraction8 → High → Checked Fraction8
 low a b h =
-    then (less_two (a.c0 ∷ []) (b.c0 ∷ []) h.s8 h.s12) (λ c0.
-    then (less_two (a.c0 ∷ a.c1 ∷ []) (b.c1 ∷ b.c0 ∷ []) h.s9 h.s13) (λ c1.
-    then (less_two (a.c0 ∷ a.c1 ∷ a.c2 ∷ []) (b.c2 ∷ b.c1 ∷ b.c0 ∷ []) h.s10 h.s14) (λ c2.
-    then (and_one (a.c0 ∷ a.c1 ∷ a.c2 ∷ a.c3 ∷ []) (b.c3 ∷ b.c2 ∷ b.c1 ∷ b.c0 ∷ []) (num (negsuc 0)) h.s11) (λ c3.
-    then (and_one (a.c0 ∷ a.c1 ∷ a.c2 ∷ a.c3 ∷ a.c4 ∷ []) (b.c4 ∷ b.c3 ∷ b.c2 ∷ b.c1 ∷ b.c0 ∷ []) (num (pos 1)) h.s8) (λ c4.
-    then (and_one (a.c0 ∷ a.c1 ∷ a.c2 ∷ a.c3 ∷ a.c4 ∷ a.c5 ∷ []) (b.c5 ∷ b.c4 ∷ b.c3 ∷ b.c2 ∷ b.c1 ∷ b.c0 ∷ []) (num (pos 1)) h.s9) (λ c5.
-    then (and_one (a.c0 ∷ a.c1 ∷ a.c2 ∷ a.c3 ∷ a.c4 ∷ a.c5 ∷ a.c6 ∷ []) (b.c6 ∷ b.c5 ∷ b.c4 ∷ b.c3 ∷ b.c2 ∷ b.c1 ∷ b.c0 ∷ []) (num (pos 1)) h.s10) (λ c6.
-    then (and_one (a.c0 ∷ a.c1 ∷ a.c2 ∷ a.c3 ∷ a.c4 ∷ a.c5 ∷ a.c6 ∷ a.c7 ∷ []) (b.c7 ∷ b.c6 ∷ b.c5 ∷ b.c4 ∷ b.c3 ∷ b.c2 ∷ b.c1 ∷ b.c0 ∷ []) (num (pos 1)) h.s11) (λ c7.
-    then (times a.d b.d) (λ d.
-    give (record { d = d; c0 = c0; c1 = c1; c2 = c2; c3 = c3; c4 = c4; c5 = c5; c6 = c6; c7 = c7 }))))))))))
+    fraction8
+    (less_two (a.c0 ∷ []) (b.c0 ∷ []) h.s8 h.s12)
+    (less_two (a.c0 ∷ a.c1 ∷ []) (b.c1 ∷ b.c0 ∷ []) h.s9 h.s13)
+    (less_two (a.c0 ∷ a.c1 ∷ a.c2 ∷ []) (b.c2 ∷ b.c1 ∷ b.c0 ∷ []) h.s10 h.s14)
+    (and_one (a.c0 ∷ a.c1 ∷ a.c2 ∷ a.c3 ∷ []) (b.c3 ∷ b.c2 ∷ b.c1 ∷ b.c0 ∷ []) (num (negsuc 0)) h.s11)
+    (and_one (a.c0 ∷ a.c1 ∷ a.c2 ∷ a.c3 ∷ a.c4 ∷ []) (b.c4 ∷ b.c3 ∷ b.c2 ∷ b.c1 ∷ b.c0 ∷ []) (num (pos 1)) h.s8)
+    (and_one (a.c0 ∷ a.c1 ∷ a.c2 ∷ a.c3 ∷ a.c4 ∷ a.c5 ∷ []) (b.c5 ∷ b.c4 ∷ b.c3 ∷ b.c2 ∷ b.c1 ∷ b.c0 ∷ []) (num (pos 1)) h.s9)
+    (and_one (a.c0 ∷ a.c1 ∷ a.c2 ∷ a.c3 ∷ a.c4 ∷ a.c5 ∷ a.c6 ∷ []) (b.c6 ∷ b.c5 ∷ b.c4 ∷ b.c3 ∷ b.c2 ∷ b.c1 ∷ b.c0 ∷ []) (num (pos 1)) h.s10)
+    (and_one (a.c0 ∷ a.c1 ∷ a.c2 ∷ a.c3 ∷ a.c4 ∷ a.c5 ∷ a.c6 ∷ a.c7 ∷ []) (b.c7 ∷ b.c6 ∷ b.c5 ∷ b.c4 ∷ b.c3 ∷ b.c2 ∷ b.c1 ∷ b.c0 ∷ []) (num (pos 1)) h.s11)
+    (times a.d b.d)
 
 -- the product, by z^8 = z^4 - 1 and z^12 = -1
 unfoldable pub product : Fraction8 → Fraction8 → Checked Fraction8
@@ -116,16 +122,8 @@ joined x p y q = dot (x ∷ y ∷ []) (p ∷ q ∷ [])
 -- a q + b p, over d q
 unfoldable pub sum_over : Fraction8 → Whole → Fraction8 → Whole → Checked Fraction8
 sum_over a q b p =
-    then (joined a.c0 q b.c0 p) (λ c0.
-    then (joined a.c1 q b.c1 p) (λ c1.
-    then (joined a.c2 q b.c2 p) (λ c2.
-    then (joined a.c3 q b.c3 p) (λ c3.
-    then (joined a.c4 q b.c4 p) (λ c4.
-    then (joined a.c5 q b.c5 p) (λ c5.
-    then (joined a.c6 q b.c6 p) (λ c6.
-    then (joined a.c7 q b.c7 p) (λ c7.
-    then (times a.d q) (λ d.
-    give (record { d = d; c0 = c0; c1 = c1; c2 = c2; c3 = c3; c4 = c4; c5 = c5; c6 = c6; c7 = c7 }))))))))))
+    fraction8 (joined a.c0 q b.c0 p) (joined a.c1 q b.c1 p) (joined a.c2 q b.c2 p) (joined a.c3 q b.c3 p) (joined a.c4 q b.c4 p) (joined a.c5 q b.c5 p) (joined a.c6 q b.c6 p) (joined a.c7 q b.c7 p)
+    (times a.d q)
 
 -- with d and e the denominators and g their greatest common divisor: a (e / g) + b (d / g), over d (e / g)
 abbrev pub sum : Fraction8 → Fraction8 → Checked Fraction8
@@ -148,40 +146,46 @@ negated r = record {
   c7 = minus r.c7;
 }
 
+-- the sum of two numbers with signs
+abbrev pub signed : ℤ → Whole → ℤ → Whole → Checked Whole
+signed f x g y = dot (num f ∷ num g ∷ []) (x ∷ y ∷ [])
+
 -- the conjugate, over d
 unfoldable pub conjugate : Fraction8 → Checked Fraction8
 conjugate a =
     then (plus a.c0 a.c4) (λ c0.
     then (times (num (negsuc 0)) a.c4) (λ c4.
-    then (dot (num (negsuc 0) ∷ num (negsuc 0) ∷ []) (a.c3 ∷ a.c7 ∷ [])) (λ c5.
-    then (dot (num (negsuc 0) ∷ num (negsuc 0) ∷ []) (a.c2 ∷ a.c6 ∷ [])) (λ c6.
-    then (dot (num (negsuc 0) ∷ num (negsuc 0) ∷ []) (a.c1 ∷ a.c5 ∷ [])) (λ c7.
+    then (signed (negsuc 0) a.c3 (negsuc 0) a.c7) (λ c5.
+    then (signed (negsuc 0) a.c2 (negsuc 0) a.c6) (λ c6.
+    then (signed (negsuc 0) a.c1 (negsuc 0) a.c5) (λ c7.
     give (record { d = a.d; c0 = c0; c1 = a.c3; c2 = a.c2; c3 = a.c1; c4 = c4; c5 = c5; c6 = c6; c7 = c7 }))))))
 
 -- the real part, over 4 d
 unfoldable pub real : Fraction8 → Checked Fraction4
 real a =
-    then (dot (num (pos 4) ∷ num (pos 2) ∷ []) (a.c0 ∷ a.c4 ∷ [])) (λ a0.
-    then (dot (num (pos 1) ∷ num (pos 2) ∷ num (negsuc 0) ∷ num (pos 1) ∷ []) (a.c1 ∷ a.c3 ∷ a.c5 ∷ a.c7 ∷ [])) (λ a1.
-    then (times (num (pos 2)) a.c2) (λ a2.
-    then (dot (num (pos 1) ∷ num (pos 1) ∷ num (negsuc 0) ∷ []) (a.c1 ∷ a.c5 ∷ a.c7 ∷ [])) (λ a3.
-    then (times (num (pos 4)) a.d) (λ d. give (record { d = d; a0 = a0; a1 = a1; a2 = a2; a3 = a3 }))))))
+    fraction
+    (signed (pos 4) a.c0 (pos 2) a.c4)
+    (dot (num (pos 1) ∷ num (pos 2) ∷ num (negsuc 0) ∷ num (pos 1) ∷ []) (a.c1 ∷ a.c3 ∷ a.c5 ∷ a.c7 ∷ []))
+    (times (num (pos 2)) a.c2)
+    (dot (num (pos 1) ∷ num (pos 1) ∷ num (negsuc 0) ∷ []) (a.c1 ∷ a.c5 ∷ a.c7 ∷ []))
+    (times (num (pos 4)) a.d)
 
 -- the imaginary part, over 4 d
 unfoldable pub imaginary : Fraction8 → Checked Fraction4
 imaginary a =
-    then (dot (num (pos 2) ∷ num (pos 4) ∷ []) (a.c2 ∷ a.c6 ∷ [])) (λ a0.
-    then (dot (num (negsuc 0) ∷ num (pos 2) ∷ num (pos 1) ∷ num (pos 1) ∷ []) (a.c1 ∷ a.c3 ∷ a.c5 ∷ a.c7 ∷ [])) (λ a1.
-    then (times (num (pos 2)) a.c4) (λ a2.
-    then (dot (num (pos 1) ∷ num (pos 1) ∷ num (pos 1) ∷ []) (a.c1 ∷ a.c5 ∷ a.c7 ∷ [])) (λ a3.
-    then (times (num (pos 4)) a.d) (λ d. give (record { d = d; a0 = a0; a1 = a1; a2 = a2; a3 = a3 }))))))
+    fraction
+    (signed (pos 2) a.c2 (pos 4) a.c6)
+    (dot (num (negsuc 0) ∷ num (pos 2) ∷ num (pos 1) ∷ num (pos 1) ∷ []) (a.c1 ∷ a.c3 ∷ a.c5 ∷ a.c7 ∷ []))
+    (times (num (pos 2)) a.c4)
+    (dot (num (pos 1) ∷ num (pos 1) ∷ num (pos 1) ∷ []) (a.c1 ∷ a.c5 ∷ a.c7 ∷ []))
+    (times (num (pos 4)) a.d)
 
 -- a real number, over d
 unfoldable pub from_four : Fraction4 → Checked Fraction8
 from_four a =
     then (plus a.a1 a.a3) (λ c1.
     then (times (num (pos 2)) a.a2) (λ c2.
-    then (dot (num (negsuc 0) ∷ num (pos 1) ∷ []) (a.a1 ∷ a.a3 ∷ [])) (λ c5.
+    then (signed (negsuc 0) a.a1 (pos 1) a.a3) (λ c5.
     then (times (num (negsuc 0)) a.a2) (λ c6.
     then (times (num (negsuc 1)) a.a3) (λ c7.
     give (record { d = a.d; c0 = a.a0; c1 = c1; c2 = c2; c3 = c1; c4 = num (pos 0); c5 = c5; c6 = c6; c7 = c7 }))))))

@@ -8,10 +8,8 @@ use Rattle.cyclo24.specs.declared.field.Wide.{Wide}
 use Rattle.cyclo24.specs.declared.whole.Whole.{Whole}
 use Rattle.cyclo24.specs.declared.fraction8.Fraction8.{Fraction8}
 use Rattle.cyclo24.specs.Gcd.{gcd, common, quotient}
-use Rattle.cyclo24.specs.CommonLaws.{common-divides}
 use Rattle.cyclo24.specs.Checked.{Checked, answer, is_wide, then, give, times, plus}
 use Rattle.cyclo24.specs.CheckedLaws.{quotient_narrow, answer_then_ok, answer_then_err, answer_give}
-use Rattle.cyclo24.specs.Written4Laws.{quotient_positive}
 use Rattle.cyclo24.specs.Written8.{numerators8, IsNarrow8, num, dot_from, sum_over, sum}
 
 -- one product after the others
@@ -67,7 +65,6 @@ over_narrow r h =
       narrow6 = quotient_narrow r.c6.n g h.narrow6;
       narrow7 = quotient_narrow r.c7.n g h.narrow7;
       narrow = quotient_narrow r.d.n g h.narrow;
-      positive = quotient_positive r.d.n g h.positive (common-divides (numerators8 r) (unsigned_abs r.d.n));
     }
 
 -- what is reduced is narrow

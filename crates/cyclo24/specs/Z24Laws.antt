@@ -23,7 +23,7 @@ use Rattle.cyclo24.specs.FourNorm.{whole4, four, four_is}
 use Rattle.cyclo24.specs.Eight.{Eight, mul8, add8, num8, conj8, re8, im8, real8, i8}
 use Rattle.cyclo24.specs.EightLaws.{mul8_add, mul8_assoc, mul8_comm, conj8-conj8, conj8-add8, conj8-mul8, conj8-scale, conj8-num8, conj8-real8, conj8-i8, real8-add4, real8-mul4, real8-num4, real8-scale, re8-add8, re8-scale, im8-add8, im8-scale, re8-real8, im8-real8, re8-i, im8-i, i8-i8, parts8}
 use Rattle.cyclo24.specs.EightNorm.{whole8, whole8_ring, eight, eight_is, above0, above3}
-use Rattle.cyclo24.specs.Z24.{z24_laws, conj, real_part, imag_part, from_real, imaginary}
+use Rattle.cyclo24.specs.ExactZ24.{z24_laws, conj, real_part, imag_part, from_real, imaginary}
 
 abbrev k24 : FieldOn (Exact (is_exact 4))
 k24 = exact_laws whole4 four four_is

@@ -15,7 +15,7 @@ use Rattle.cyclo24.specs.FieldLaws.{neg-unique, neg-plus, nought-plus, times-nou
 use Rattle.cyclo24.specs.Listed.{is_exact}
 use Rattle.cyclo24.specs.ListedLaws.{exact_laws}
 use Rattle.cyclo24.specs.FourNorm.{whole4, four, four_is}
-use Rattle.cyclo24.specs.Z24.{z24_laws, conj, real_part, imag_part, from_real, imaginary}
+use Rattle.cyclo24.specs.ExactZ24.{z24_laws, conj, real_part, imag_part, from_real, imaginary}
 use Rattle.cyclo24.specs.Z24Laws.{conj-conj, conj-plus, conj-times, conj-from_real, conj-imaginary, imaginary-square, from_real-plus, from_real-times, from_real-unit, from_real-nought, real_part-plus, imag_part-plus, real_part-from_real, imag_part-from_real, real_part-imaginary, imag_part-imaginary, parts}
 
 abbrev k24 : FieldOn (Exact (is_exact 4))

@@ -15,7 +15,7 @@ use Rattle.cyclo24.specs.Four.{Four}
 use Rattle.cyclo24.specs.FourNorm.{whole4, four, four_is}
 use Rattle.cyclo24.specs.Eight.{Eight, mul8, add8, neg8, num8, real8, z8, i8}
 use Rattle.cyclo24.specs.EightNorm.{whole8, eight, eight_is, above0}
-use Rattle.cyclo24.specs.Z24.{z24_laws, root_of_unity, power, imaginary, from_real}
+use Rattle.cyclo24.specs.ExactZ24.{z24_laws, root_of_unity, power, imaginary, from_real}
 use Rattle.cyclo24.specs.Z24Laws.{real_linear}
 
 abbrev member : Eight ℤ → Exact (is_exact 8)

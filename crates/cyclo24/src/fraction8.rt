@@ -1,7 +1,8 @@
 // Eight numerators over a denominator, and the formulas of the 24th cyclotomic field on them.
 ghost use Rattle.std.specs.Prelude.{◌≡◌, ◌<◌, pos, true, false, length};
 ghost use Rattle.std.specs.Int.RustNames.{unsigned_abs};
-ghost use Rattle.cyclo24.specs.Checked.{answer};
+ghost use Rattle.cyclo24.specs.Checked.{answer, is_wide};
+ghost use Rattle.cyclo24.specs.Listed.{is_positive};
 ghost use Rattle.cyclo24.specs.Gcd.{common, lowest_terms, all_zero};
 ghost use Rattle.cyclo24.specs.Written8.{numerators8, numbers8, IsNarrow8, dot, high_sums, less_two, and_one, low, product, joined, sum_over, sum, negated, conjugate, real, imaginary, from_four};
 
@@ -138,8 +139,9 @@ impl Fraction8 {
 
     /// The sum, before lowest terms.
     pub(crate) fn sum(self, other: Fraction8) -> Result<Fraction8, Wide>
-        requires narrow { IsNarrow8 self }
-        requires narrow_other { IsNarrow8 other }
+        requires narrow { is_wide self.d.n ≡ false }
+        requires narrow_other { is_wide other.d.n ≡ false }
+        requires positive { is_positive other.d.n ≡ true }
         ensures { result ≡ answer (sum self other) }
     {
         let common = self.d.common(other.d);
@@ -202,7 +204,8 @@ impl Fraction8 {
 
     // What divides each number.
     fn content(self) -> Whole
-        requires { IsNarrow8 self }
+        requires narrow { IsNarrow8 self }
+        requires positive { is_positive self.d.n ≡ true }
         ensures value { result ≡ record { n = pos (common (numerators8 self) (unsigned_abs self.d.n)) } }
         ensures positive { 0 < unsigned_abs result.n }
     {
@@ -218,7 +221,8 @@ impl Fraction8 {
 
     /// The number in lowest terms.
     pub(crate) fn reduced(self) -> Fraction8
-        requires { IsNarrow8 self }
+        requires narrow { IsNarrow8 self }
+        requires positive { is_positive self.d.n ≡ true }
         ensures lowest { numbers8 result ≡ lowest_terms (numerators8 self) (unsigned_abs self.d.n) }
         ensures narrow { IsNarrow8 result }
     {
