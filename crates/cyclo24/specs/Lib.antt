@@ -11,6 +11,7 @@ pub mod Z24Parts
 pub mod Z24Roots
 pub mod Written8
 pub mod Written8Laws
+pub mod Written8Values
 pub mod BoolLaws
 pub mod Ring
 pub mod Solve
