@@ -1,18 +1,21 @@
 -- Maps of exact values by maps of their numerators.
 --
 -- exact_map φ k x: the exact value φ a / (k d), where x is a / d
+-- exact_map-is: its list
 -- exact_map-plus, exact_map-times, exact_map-nought, exact_map-unit: it respects sums and products as φ does
 -- exact_map-map: one map after another; exact_map-same, exact_map-itself, plus-exact_map: equal maps
 use Rattle.std.proofs.Common.{◌≡◌, ℕ, zero, suc, ◌+◌, ◌*◌, ◌<◌, refl, sym, ap, ◌∙◌, arith}
+use Rattle.std.specs.Int.RustNames.{unsigned_abs}
 use Rattle.cyclo24.specs.Ring.{Ops, IsRing}
 use Rattle.cyclo24.specs.FieldOn.{FieldOn}
 use Rattle.cyclo24.specs.ExactField.{Exact}
 use Rattle.cyclo24.specs.Fraction.{Fraction}
-use Rattle.cyclo24.specs.FractionLaws.{lower, sum, times, minus, nought, one_positive}
+use Rattle.cyclo24.specs.FractionLaws.{lower, sum, times, minus, nought, one_positive, mul_positive}
 use Rattle.cyclo24.specs.Numerators.{Numerators, IsNumerators, content_of}
 use Rattle.cyclo24.specs.CommonLaws.{content_of_is}
-use Rattle.cyclo24.specs.Listed.{is_exact}
-use Rattle.cyclo24.specs.ListedLaws.{exact_laws, listed}
+use Rattle.cyclo24.specs.Gcd.{lowest_terms}
+use Rattle.cyclo24.specs.Listed.{is_exact, numerators, denominator}
+use Rattle.cyclo24.specs.ListedLaws.{exact_laws, listed, listed-lower, from-top, from-low}
 use Rattle.cyclo24.specs.FractionMaps.{IsLinear, mapped, mapped-sum, mapped-times, mapped-mapped, mapped-same, mapped-itself, mapped-lower, sum-mapped, mapped-zero, times-member, times-lower, sum-lower, minus-lower}
 
 module _ {R S : Type 0} (o : Ops R) (m : Numerators o) (h : IsNumerators o m) (o' : Ops S) (m' : Numerators o') (h' : IsNumerators o' m') where
@@ -22,6 +25,14 @@ module _ {R S : Type 0} (o : Ops R) (m : Numerators o) (h : IsNumerators o m) (o
   -- φ a over k d, where x is a / d
   unfoldable pub exact_map : (R → S) → (k : ℕ) → 0 < k → Exact (is_exact m.count) → Exact (is_exact m'.count)
   exact_map φ k p x = (listed o' m' h').to (mapped o (content_of m) (content_of_is o m h) o' (content_of m') (content_of_is o' m' h') φ k p ((listed o m h).from x))
+
+  -- its list
+  pub exact_map-is : (φ : R → S) (k : ℕ) (p : 0 < k) (x : Exact (is_exact m.count)) → (exact_map φ k p x).0 ≡ lowest_terms (m'.list (φ (m.member (numerators m.count x.0)))) (k * unsigned_abs (denominator m.count x.0))
+  unfolding exact_map
+  exact_map-is φ k p x =
+      let f = (listed o m h).from x in
+      listed-lower o' m' h' (φ f.top) (k * f.low) (mul_positive o (content_of m) (content_of_is o m h) k f.low p f.positive)
+      ∙ (λ i. lowest_terms (m'.list (φ (from-top o m h x i))) (k * from-low o m h x i))
 
   pub exact_map-plus : (φ : R → S) (k : ℕ) (p : 0 < k) → IsLinear o o' φ → (x y : Exact (is_exact m.count))
       → exact_map φ k p ((exact_laws o m h).plus x y) ≡ (exact_laws o' m' h').plus (exact_map φ k p x) (exact_map φ k p y)
@@ -93,6 +104,10 @@ module _ {R : Type 0} (o : Ops R) (m : Numerators o) (h : IsNumerators o m) wher
   -- a member of the ring
   unfoldable pub exact_member : R → Exact (is_exact m.count)
   exact_member a = (listed o m h).to (lower o (content_of m) (content_of_is o m h) a 1 (one_positive o (content_of m) (content_of_is o m h)))
+
+  pub exact_member-is : (a : R) → (exact_member a).0 ≡ lowest_terms (m.list a) 1
+  unfolding exact_member
+  exact_member-is a = listed-lower o m h a 1 (one_positive o (content_of m) (content_of_is o m h))
 
   pub times-exact_member : (a : R) (p : 0 < 1) → IsLinear o o (λ x. o.mul a x) → (x : Exact (is_exact m.count))
       → (exact_laws o m h).times (exact_member a) x ≡ exact_map o m h o m h (λ y. o.mul a y) 1 p x

@@ -12,6 +12,7 @@ pub mod Z24Roots
 pub mod Written8
 pub mod Written8Laws
 pub mod Written8Values
+pub mod Z24Calls
 pub mod BoolLaws
 pub mod Ring
 pub mod Solve
