@@ -13,6 +13,9 @@ pub mod Written8
 pub mod Written8Laws
 pub mod Written8Values
 pub mod Z24Calls
+pub mod Z24
+pub mod Z24Order
+pub mod Z24Inverse
 pub mod BoolLaws
 pub mod Ring
 pub mod Solve

@@ -210,8 +210,7 @@ low_value a b h k =
     (and_one (a.c0 ∷ a.c1 ∷ a.c2 ∷ a.c3 ∷ a.c4 ∷ a.c5 ∷ []) (b.c5 ∷ b.c4 ∷ b.c3 ∷ b.c2 ∷ b.c1 ∷ b.c0 ∷ []) (num (pos 1)) h.s9)
     (and_one (a.c0 ∷ a.c1 ∷ a.c2 ∷ a.c3 ∷ a.c4 ∷ a.c5 ∷ a.c6 ∷ []) (b.c6 ∷ b.c5 ∷ b.c4 ∷ b.c3 ∷ b.c2 ∷ b.c1 ∷ b.c0 ∷ []) (num (pos 1)) h.s10)
     (and_one (a.c0 ∷ a.c1 ∷ a.c2 ∷ a.c3 ∷ a.c4 ∷ a.c5 ∷ a.c6 ∷ a.c7 ∷ []) (b.c7 ∷ b.c6 ∷ b.c5 ∷ b.c4 ∷ b.c3 ∷ b.c2 ∷ b.c1 ∷ b.c0 ∷ []) (num (pos 1)) h.s11)
-    (times a.d b.d) in
-    (
+    (times a.d b.d) in (
       ap numerators8 v ∙ (λ i. c0 i ∷ c1 i ∷ c2 i ∷ c3 i ∷ c4 i ∷ c5 i ∷ c6 i ∷ c7 i ∷ []),
       ap (λ (r : Fraction8). r.d.n) v,
     )
@@ -260,8 +259,7 @@ pub sum_value : (a : Fraction8) (q : Whole) (b : Fraction8) (p : Whole) → let 
     (numerators8 (sum_over a q b p).value ≡ c a.c0.n b.c0.n ∷ c a.c1.n b.c1.n ∷ c a.c2.n b.c2.n ∷ c a.c3.n b.c3.n ∷ c a.c4.n b.c4.n ∷ c a.c5.n b.c5.n ∷ c a.c6.n b.c6.n ∷ c a.c7.n b.c7.n ∷ []) × ((sum_over a q b p).value.d.n ≡ a.d.n *ℤ q.n)
 unfolding sum_over
 sum_value a q b p =
-    let v = fraction8_value (joined a.c0 q b.c0 p) (joined a.c1 q b.c1 p) (joined a.c2 q b.c2 p) (joined a.c3 q b.c3 p) (joined a.c4 q b.c4 p) (joined a.c5 q b.c5 p) (joined a.c6 q b.c6 p) (joined a.c7 q b.c7 p) (times a.d q) in
-    (
+    let v = fraction8_value (joined a.c0 q b.c0 p) (joined a.c1 q b.c1 p) (joined a.c2 q b.c2 p) (joined a.c3 q b.c3 p) (joined a.c4 q b.c4 p) (joined a.c5 q b.c5 p) (joined a.c6 q b.c6 p) (joined a.c7 q b.c7 p) (times a.d q) in (
       ap numerators8 v ∙ (λ i. joined_value a.c0 q b.c0 p i ∷ joined_value a.c1 q b.c1 p i ∷ joined_value a.c2 q b.c2 p i ∷ joined_value a.c3 q b.c3 p i ∷ joined_value a.c4 q b.c4 p i ∷ joined_value a.c5 q b.c5 p i ∷ joined_value a.c6 q b.c6 p i ∷ joined_value a.c7 q b.c7 p i ∷ []),
       ap (λ (r : Fraction8). r.d.n) v,
     )

@@ -4,6 +4,7 @@
 -- .._ready: what is answered can be reduced
 -- negated_z24, small, zero_z24, one_z24, is_zero_z24: the other operations
 use Rattle.std.proofs.Common.{◌≡◌, ◌<◌, ◌*◌, ◌/◌, ℕ, zero, suc, refl, sym, ap, ◌∙◌, subst, arith, rules, ℤ, pos, negsuc, neg_ℤ, ◌+ℤ◌, ◌*ℤ◌, List, [], ◌∷◌, Bool, true, false, Ok, Err, le_trans, lit≤}
+use Rattle.std.specs.Prelude.{IsTrue}
 use Rattle.std.specs.Int.RustNames.{unsigned_abs}
 use Rattle.std.proofs.lemmas.Int.{ints, unsigned_abs-mul}
 use Rattle.cyclo24.specs.declared.whole.Whole.{Whole}
@@ -56,14 +57,21 @@ low_positive4 r h = let e = exact_is 4 (numbers4 r) h in ap is_positive e.uprigh
 pub made_low8 : (r : Fraction8) (x : ExactZ24) → numbers8 r ≡ x.0 → IsLow8 r
 made_low8 r x e = ap (is_exact 8) e ∙ x.1
 
-pub made_value8 : (r : Fraction8) (h : IsLow8 r) (x : ExactZ24) → numbers8 r ≡ x.0 → exact_of8 r h ≡ x
-made_value8 r h x e = same_exact (exact_of8 r h) x e
+pub made_value8 : (r : Fraction8) (x : ExactZ24) → numbers8 r ≡ x.0 → (h : IsLow8 r) → exact_of8 r h ≡ x
+made_value8 r x e h = same_exact (exact_of8 r h) x e
 
 pub made_low4 : (r : Fraction4) (x : Exact24) → numbers4 r ≡ x.0 → IsLow4 r
 made_low4 r x e = ap (is_exact 4) e ∙ x.1
 
-pub made_value4 : (r : Fraction4) (h : IsLow4 r) (x : Exact24) → numbers4 r ≡ x.0 → exact_of4 r h ≡ x
-made_value4 r h x e = same_exact (exact_of4 r h) x e
+pub made_value4 : (r : Fraction4) (x : Exact24) → numbers4 r ≡ x.0 → (h : IsLow4 r) → exact_of4 r h ≡ x
+made_value4 r x e h = same_exact (exact_of4 r h) x e
+
+-- an answer is an error exactly where the test holds
+pub wide_ok : (w : Bool) → w ≡ false → (false ≡ true → IsTrue w) × (IsTrue w → false ≡ true)
+wide_ok w e = (λ f. absurd (cc), λ t. sym e ∙ t)
+
+pub wide_err : (w : Bool) → w ≡ true → (true ≡ true → IsTrue w) × (IsTrue w → true ≡ true)
+wide_err w e = (λ _. e, λ _. refl)
 
 mul_above : (m n : ℕ) → 0 < m → 0 < n → 0 < m * n
 mul_above m n p q = grind arith
@@ -106,8 +114,7 @@ sum_ready8 a b r h k e =
     let q = num (quotient b.d.n g) in
     let p = num (quotient a.d.n g) in
     let t = answer_ok (sum a b) r e in
-    let d : r.d.n ≡ a.d.n *ℤ quotient b.d.n g = ap (λ (s : Fraction8). s.d.n) (sym t.1) ∙ (sum_value a q b p).1 in
-    (
+    let d : r.d.n ≡ a.d.n *ℤ quotient b.d.n g = ap (λ (s : Fraction8). s.d.n) (sym t.1) ∙ (sum_value a q b p).1 in (
       subst IsNarrow8 t.1 (sum_narrow a q b p t.0),
       ap is_positive d ∙ product_positive a.d.n (quotient b.d.n g) (low_positive8 a h) (quotient_positive b.d.n g (low_positive8 b k) (gcd_is (unsigned_abs a.d.n) (unsigned_abs b.d.n)).1),
     )
@@ -141,7 +148,7 @@ pub difference_z24 : (a b c r s : Fraction8) (h : IsLow8 a) (k : IsLow8 b) → c
     → numbers8 s ≡ (z24_laws.plus (exact_of8 a h) (z24_laws.neg (exact_of8 b k))).0
 difference_z24 a b c r s h k n e l =
     let m = made_low8 c (z24_laws.neg (exact_of8 b k)) (negated_z24 b c k n) in
-    sum_z24 a c r s h m e l ∙ ap (λ y. (z24_laws.plus (exact_of8 a h) y).0) (made_value8 c m (z24_laws.neg (exact_of8 b k)) (negated_z24 b c k n))
+    sum_z24 a c r s h m e l ∙ ap (λ y. (z24_laws.plus (exact_of8 a h) y).0) (made_value8 c (z24_laws.neg (exact_of8 b k)) (negated_z24 b c k n) m)
 
 pub negated_low : (b c : Fraction8) (k : IsLow8 b) → c ≡ negated b → IsLow8 c
 negated_low b c k n = made_low8 c (z24_laws.neg (exact_of8 b k)) (negated_z24 b c k n)

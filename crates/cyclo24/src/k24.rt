@@ -16,7 +16,7 @@ use std::alloc::Global;
 /// Values compare by their denominators, then by their numerators.
 #[derive(Clone, Copy, Debug, PartialEq, Eq, PartialOrd, Ord, Hash)]
 pub struct K24 {
-    fraction: Fraction4,
+    pub(crate) fraction: Fraction4,
     pub ghost narrow: { IsNarrow4 fraction },
     pub ghost lowest: { is_exact 4 (numbers4 fraction) ≡ true },
 }

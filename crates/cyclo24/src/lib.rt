@@ -10,8 +10,11 @@ mod k24;
 mod laws;
 mod print;
 mod fraction8;
+mod k24;
 mod whole;
+mod z24;
 
 pub use field::{Field, Wide};
 pub use k24::K24;
 pub use laws::{law_of_roots, law_of_squares};
+pub use z24::Z24;
