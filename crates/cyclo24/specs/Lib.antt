@@ -16,6 +16,7 @@ pub mod Z24Calls
 pub mod Z24
 pub mod Z24Order
 pub mod Z24Inverse
+pub mod TextZ24
 pub mod BoolLaws
 pub mod Ring
 pub mod Solve

@@ -2,20 +2,22 @@
 --
 -- power-plus: products of powers; power-24, power-mod: z to the power 24 is 1; times-power: the product of powers below 24
 -- power-8: z^8 = z^4 - 1; power-12: z^12 = -1; power-6: z^6 is the imaginary unit
+-- power8 n: the coefficients of z to the power n; row_is: the table of them
 -- from_real-r2, from_real-r3, from_real-r6: the square roots by powers of z
-use Rattle.std.proofs.Common.{◌≡◌, ℕ, zero, suc, ◌+◌, ◌*◌, ◌/◌, ◌%◌, ◌<◌, refl, sym, ap, ◌∙◌, arith, ℤ, pos, List, [], ◌∷◌}
+use Rattle.std.proofs.Common.{◌≡◌, ℕ, zero, suc, ◌+◌, ◌*◌, ◌/◌, ◌%◌, ◌<◌, refl, sym, ap, ◌∙◌, arith, ℤ, pos, List, [], ◌∷◌, get_or}
 use Rattle.cyclo24.specs.FieldOn.{FieldOn}
 use Rattle.cyclo24.specs.ExactField.{Exact}
 use Rattle.cyclo24.specs.FieldLaws.{unit-times}
+use Rattle.cyclo24.specs.Gcd.{lowest_terms}
 use Rattle.cyclo24.specs.WholeRing.{whole, whole_ring}
 use Rattle.cyclo24.specs.Listed.{is_exact}
 use Rattle.cyclo24.specs.ListedLaws.{exact_laws}
-use Rattle.cyclo24.specs.ExactMaps.{exact_member, exact_member-plus, exact_member-times, exact_member-neg, exact_member-one, exact_map-member}
+use Rattle.cyclo24.specs.ExactMaps.{exact_member, exact_member-plus, exact_member-times, exact_member-neg, exact_member-one, exact_map-member, exact_member-is}
 use Rattle.cyclo24.specs.Four.{Four}
 use Rattle.cyclo24.specs.FourNorm.{whole4, four, four_is}
 use Rattle.cyclo24.specs.Eight.{Eight, mul8, add8, neg8, num8, real8, z8, i8}
-use Rattle.cyclo24.specs.EightNorm.{whole8, eight, eight_is, above0}
-use Rattle.cyclo24.specs.ExactZ24.{z24_laws, root_of_unity, power, imaginary, from_real}
+use Rattle.cyclo24.specs.EightNorm.{whole8, eight, eight_is, list8, above0}
+use Rattle.cyclo24.specs.ExactZ24.{ExactZ24, z24_laws, root_of_unity, power, imaginary, from_real}
 use Rattle.cyclo24.specs.Z24Laws.{real_linear}
 
 abbrev member : Eight ℤ → Exact (is_exact 8)
@@ -120,3 +122,20 @@ pub from_real-r6 : from_real (exact_member whole4 four four_is r6) ≡ z24_laws.
 from_real-r6 =
     from_real-member r6 ∙ ap member real8-r6 ∙ sym (exact_member-plus whole8 eight eight_is (add8 whole (power8 1) (power8 23)) (add8 whole (power8 5) (power8 19)))
     ∙ sym (λ i. z24_laws.plus (power8-sum 1 23 i) (power8-sum 5 19 i))
+
+-- the coefficients of n powers from the power k on
+abbrev pub rows_from : ℕ → ℕ → List (List ℤ)
+rows_from k zero = []
+rows_from k (suc n) = list8 (power8 k) ∷ rows_from (suc k) n
+
+rows_at : (d : List ℤ) (k n i : ℕ) → i < n → get_or (rows_from k n) i d ≡ list8 (power8 (k + i))
+rows_at d k zero i h = absurd (omega arith)
+rows_at d k (suc n) zero h = let e : k ≡ k + zero = omega arith in ap (λ m. list8 (power8 m)) e
+rows_at d k (suc n) (suc i) h = let e : suc k + i ≡ k + suc i = omega arith in rows_at d (suc k) n i (omega arith) ∙ ap (λ m. list8 (power8 m)) e
+
+pub row_is : (d : List ℤ) (n i : ℕ) → i < n → get_or (rows_from 0 n) i d ≡ list8 (power8 i)
+row_is d n i h = let e : 0 + i ≡ i = omega arith in rows_at d 0 n i h ∙ ap (λ m. list8 (power8 m)) e
+
+-- small and over 1
+pub power8-one : (n : ℕ) → (power n).0 ≡ lowest_terms (list8 (power8 n)) 1
+power8-one n = ap (λ (x : ExactZ24). x.0) (power_is n) ∙ exact_member-is whole8 eight eight_is (power8 n)

@@ -6,11 +6,11 @@
 
 mod field;
 mod fraction4;
-mod k24;
-mod laws;
-mod print;
 mod fraction8;
 mod k24;
+mod laws;
+mod powers;
+mod print;
 mod whole;
 mod z24;
 

@@ -4,8 +4,11 @@ ghost use Rattle.cyclo24.specs.Written8.{numbers8, IsNarrow8};
 ghost use Rattle.cyclo24.specs.Listed.{is_exact};
 
 use crate::fraction8::Fraction8;
+use crate::print::push_multiple;
 use crate::whole::Whole;
 use crate::{Field, K24, Wide};
+use iso_text::{NoMemory, Text};
+use std::alloc::Global;
 
 /// A number (c0 + c1 z + .. + c7 z^7) / d in lowest terms over a denominator above 0, where z is
 /// exp(2 pi i / 24). All nine numbers are below 2^126 in absolute value.
@@ -107,6 +110,7 @@ impl Field for Z24 {
 impl Z24 {
     ghost use Rattle.cyclo24.specs.ExactZ24.{conj, real_part, imag_part, from_real, is_wide_conj, is_wide_real_part, is_wide_imag_part, is_wide_from_real};
     ghost use Rattle.cyclo24.specs.K24.{exact24};
+    ghost use Rattle.cyclo24.specs.TextZ24.{text_z24};
     ghost use Rattle.cyclo24.specs.Z24.{exact_z24};
 
     /// The complex conjugate.
@@ -151,5 +155,33 @@ impl Z24 {
         Ok(Z24 {
             fraction: powers.reduced(),
         })
+    }
+
+    /// The text: for each coefficient of 1, z, .., z^7 that isn't 0 its fraction in lowest terms, as
+    /// `1/2-3/4*z1+z6`; `0` where all are 0.
+    pub fn print(self, alloc: Global) -> Result<Text, NoMemory>
+        ensures { IfOk result (λ text. text ≡ text_z24 (exact_z24 self)) }
+    {
+        let f = self.fraction;
+        if f.is_zero() {
+            let zero = String::from_str(alloc, "0")?;
+            return Ok(Text::from_string(zero));
+        }
+        let s0 = push_multiple(alloc, String::new(alloc), true, f.c0, f.d, "")?;
+        let first1 = f.c0.is_zero();
+        let s1 = push_multiple(alloc, s0, first1, f.c1, f.d, "z1")?;
+        let first2 = first1 && f.c1.is_zero();
+        let s2 = push_multiple(alloc, s1, first2, f.c2, f.d, "z2")?;
+        let first3 = first2 && f.c2.is_zero();
+        let s3 = push_multiple(alloc, s2, first3, f.c3, f.d, "z3")?;
+        let first4 = first3 && f.c3.is_zero();
+        let s4 = push_multiple(alloc, s3, first4, f.c4, f.d, "z4")?;
+        let first5 = first4 && f.c4.is_zero();
+        let s5 = push_multiple(alloc, s4, first5, f.c5, f.d, "z5")?;
+        let first6 = first5 && f.c5.is_zero();
+        let s6 = push_multiple(alloc, s5, first6, f.c6, f.d, "z6")?;
+        let first7 = first6 && f.c6.is_zero();
+        let s7 = push_multiple(alloc, s6, first7, f.c7, f.d, "z7")?;
+        Ok(Text::from_string(s7))
     }
 }
