@@ -17,6 +17,8 @@ pub mod Z24
 pub mod Z24Order
 pub mod Z24Inverse
 pub mod TextZ24
+pub mod Terms
+pub mod TermsLaws
 pub mod BoolLaws
 pub mod Ring
 pub mod Solve

@@ -11,6 +11,7 @@ mod k24;
 mod laws;
 mod powers;
 mod print;
+mod terms;
 mod whole;
 mod z24;
 
