@@ -15,8 +15,8 @@ use Rattle.cyclo24.specs.Numerators.{Numerators, IsNumerators, content_of}
 use Rattle.cyclo24.specs.CommonLaws.{content_of_is}
 use Rattle.cyclo24.specs.Gcd.{lowest_terms}
 use Rattle.cyclo24.specs.Listed.{is_exact, numerators, denominator}
-use Rattle.cyclo24.specs.ListedLaws.{exact_laws, listed, listed-lower, from-top, from-low}
-use Rattle.cyclo24.specs.FractionMaps.{IsLinear, mapped, mapped-sum, mapped-times, mapped-mapped, mapped-same, mapped-itself, mapped-lower, sum-mapped, mapped-zero, times-member, times-lower, sum-lower, minus-lower}
+use Rattle.cyclo24.specs.ListedLaws.{exact_laws, listed, listed-lower, exact-lower, from-top, from-low}
+use Rattle.cyclo24.specs.FractionMaps.{IsLinear, mapped, mapped-sum, mapped-times, mapped-mapped, mapped-same, mapped-itself, mapped-lower, sum-mapped, mapped-zero, times-member, times-lower, sum-lower, minus-lower, times-low}
 
 module _ {R S : Type 0} (o : Ops R) (m : Numerators o) (h : IsNumerators o m) (o' : Ops S) (m' : Numerators o') (h' : IsNumerators o' m') where
   fraction_map : (R → S) → (k : ℕ) → 0 < k → Fraction (content_of m) → Fraction (content_of m')
@@ -123,6 +123,14 @@ module _ {R : Type 0} (o : Ops R) (m : Numerators o) (h : IsNumerators o m) wher
       let c = content_of_is o m h in let t = listed o m h in let one = one_positive o (content_of m) c in
       let f = lower o (content_of m) c a 1 one in let g = lower o (content_of m) c b 1 one in
       ap t.to ((λ i. times o (content_of m) c (t.from-to f i) (t.from-to g i)) ∙ times-lower o (content_of m) c a b one)
+
+  -- d times an exact value with the list of a / d
+  pub exact_member-low : (a : R) (d : ℕ) (q : 0 < d) (x : Exact (is_exact m.count)) → x.0 ≡ lowest_terms (m.list a) d → (exact_laws o m h).times (exact_member (o.num d)) x ≡ exact_member a
+  unfolding exact_member
+  exact_member-low a d q x e =
+      let c = content_of_is o m h in let t = listed o m h in let one = one_positive o (content_of m) c in
+      ap ((exact_laws o m h).times (exact_member (o.num d))) (exact-lower o m h a d q x e)
+      ∙ ap t.to ((λ i. times o (content_of m) c (t.from-to (lower o (content_of m) c (o.num d) 1 one) i) (t.from-to (lower o (content_of m) c a d q) i)) ∙ times-low o (content_of m) c a d one q)
 
   pub exact_member-plus : (a b : R) → (exact_laws o m h).plus (exact_member a) (exact_member b) ≡ exact_member (o.add a b)
   unfolding exact_member

@@ -184,3 +184,10 @@ module _ {R : Type 0} (o : Ops R) (c : Content o) (h : IsContent o c) where
   minus-lower a p =
       same_from_is o c h (minus o c h (lower o c h a 1 p)) (lower o c h (o.neg a) 1 p) (o.neg a) (o.num 1) (o.neg a) (o.num 1)
       (is_minus o c h (lower o c h a 1 p) a (o.num 1) (is_lower o c h a 1 p)) (is_lower o c h (o.neg a) 1 p) refl
+
+  -- d times a / d
+  pub times-low : (a : R) (d : ℕ) (p : 0 < 1) (q : 0 < d) → times o c h (lower o c h (o.num d) 1 p) (lower o c h a d q) ≡ lower o c h a 1 p
+  times-low a d p q =
+      same_from_is o c h (times o c h (lower o c h (o.num d) 1 p) (lower o c h a d q)) (lower o c h a 1 p) (o.mul (o.num d) a) (o.mul (o.num 1) (o.num d)) a (o.num 1)
+      (is_times o c h (lower o c h (o.num d) 1 p) (lower o c h a d q) (o.num d) (o.num 1) a (o.num d) (is_lower o c h (o.num d) 1 p) (is_lower o c h a d q)) (is_lower o c h a 1 p)
+      (sym (h.ring.mul_assoc (o.num 1) (o.num d) a))

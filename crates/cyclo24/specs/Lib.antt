@@ -19,6 +19,7 @@ pub mod Z24Inverse
 pub mod TextZ24
 pub mod Terms
 pub mod TermsLaws
+pub mod TermsValues
 pub mod BoolLaws
 pub mod Ring
 pub mod Solve

@@ -20,7 +20,7 @@ use Rattle.cyclo24.specs.EightNorm.{whole8, eight, eight_is, list8, above0}
 use Rattle.cyclo24.specs.ExactZ24.{ExactZ24, z24_laws, root_of_unity, power, imaginary, from_real}
 use Rattle.cyclo24.specs.Z24Laws.{real_linear}
 
-abbrev member : Eight ℤ → Exact (is_exact 8)
+abbrev pub member : Eight ℤ → Exact (is_exact 8)
 member a = exact_member whole8 eight eight_is a
 
 -- the coefficients of a power
@@ -83,7 +83,7 @@ pub times-power : (a b : ℕ) → z24_laws.times (power a) (power b) ≡ power (
 times-power a b = sym (power-mod (a + b) ∙ power-plus a b)
 
 -- a real number of whole coefficients
-from_real-member : (a : Four ℤ) → from_real (exact_member whole4 four four_is a) ≡ member (real8 whole a)
+pub from_real-member : (a : Four ℤ) → from_real (exact_member whole4 four four_is a) ≡ member (real8 whole a)
 unfolding from_real
 from_real-member a = exact_map-member whole4 four four_is whole8 eight eight_is (real8 whole) above0 real_linear a
 

@@ -4,10 +4,12 @@ ghost use Rattle.cyclo24.specs.Written8.{numbers8, IsNarrow8};
 ghost use Rattle.cyclo24.specs.Listed.{is_exact};
 
 use crate::fraction8::Fraction8;
+use crate::powers::{ROOT_ORDER, power_row};
 use crate::print::push_multiple;
+use crate::terms::{sum_of_terms, with_row, zero_over};
 use crate::whole::Whole;
 use crate::{Field, K24, Wide};
-use iso_text::{NoMemory, Text};
+use iso_text::{NoMemory, Term, Text};
 use std::alloc::Global;
 
 /// A number (c0 + c1 z + .. + c7 z^7) / d in lowest terms over a denominator above 0, where z is
@@ -108,10 +110,39 @@ impl Field for Z24 {
 }
 
 impl Z24 {
-    ghost use Rattle.cyclo24.specs.ExactZ24.{conj, real_part, imag_part, from_real, is_wide_conj, is_wide_real_part, is_wide_imag_part, is_wide_from_real};
+    ghost use Rattle.std.specs.Prelude.{◌<◌, ◌≤◌, length};
+    ghost use Rattle.std.specs.List.{All};
+    ghost use Rattle.cyclo24.specs.Terms.{IsTerm, terms_value};
+    ghost use Rattle.cyclo24.specs.ExactZ24.{power, conj, real_part, imag_part, from_real, is_wide_conj, is_wide_real_part, is_wide_imag_part, is_wide_from_real};
     ghost use Rattle.cyclo24.specs.K24.{exact24};
     ghost use Rattle.cyclo24.specs.TextZ24.{text_z24};
     ghost use Rattle.cyclo24.specs.Z24.{exact_z24};
+
+    /// z to the power a.
+    pub fn root(a: u8) -> Z24
+        requires { a < ROOT_ORDER }
+        ensures { exact_z24 result ≡ power a }
+    {
+        let row = power_row(a);
+        let zero = zero_over(Whole { n: 1 });
+        let fraction = with_row(zero, Whole { n: 1 }, &row);
+        Z24 {
+            fraction: fraction.reduced(),
+        }
+    }
+
+    /// The sum of at most 16 terms, each a fraction times a unit. The numerators are at most 10,000
+    /// in absolute value, the denominators divide 24, and the powers of z are below 24.
+    pub fn from_terms(terms: &[Term]) -> Z24
+        requires few { length terms.now ≤ 16 }
+        requires terms { All IsTerm terms.now }
+        ensures { exact_z24 result ≡ terms_value terms.now }
+    {
+        let sum = sum_of_terms(terms);
+        Z24 {
+            fraction: sum.reduced(),
+        }
+    }
 
     /// The complex conjugate.
     pub fn conj(self) -> Result<Z24, Wide>
