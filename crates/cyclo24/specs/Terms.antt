@@ -14,7 +14,7 @@ use Rattle.cyclo24.specs.Numerals.{of_whole}
 use Rattle.cyclo24.specs.Eight.{Eight, add8, num8, real8}
 use Rattle.cyclo24.specs.ExactZ24.{ExactZ24, z24_laws, power, imaginary, from_real}
 use Rattle.cyclo24.specs.RootsK24.{r2, r3, r6}
-use Rattle.cyclo24.specs.Z24Roots.{power8, r2 as four2, r3 as four3, r6 as four6}
+use Rattle.cyclo24.specs.Z24Roots.{power8, four2, four3, four6}
 
 -- a power of z is below 24
 abbrev pub IsUnit : TermUnit → Type 0

@@ -34,7 +34,7 @@ use Rattle.cyclo24.specs.ExactMaps.{exact_member, exact_member-is, exact_member-
 use Rattle.cyclo24.specs.RootsK24.{r2, r3, r6}
 use Rattle.cyclo24.specs.ExactK24.{Exact24}
 use Rattle.cyclo24.specs.ExactZ24.{ExactZ24, z24_laws, power, imaginary, from_real}
-use Rattle.cyclo24.specs.Z24Roots.{member, power8, power_is, power-6, from_real-member, power8-one, r2 as four2, r3 as four3, r6 as four6}
+use Rattle.cyclo24.specs.Z24Roots.{member, power8, power_is, power-6, from_real-member, power8-one, four2, four3, four6, r2_member, r3_member, r6_member}
 use Rattle.cyclo24.specs.Terms.{IsTerm, unit_value, ratio_value, term_value, terms_value, unit8, scale8, row8, factor_of, term8, terms8, AreAtMost}
 
 ones_member : (n : ℕ) → ones z24_laws n ≡ member (num8 whole (pos n))
@@ -51,27 +51,15 @@ whole_member (negsuc n) = ap z24_laws.neg (ones_member (suc n)) ∙ exact_member
 real_member : (x : Exact24) (a : Four ℤ) → x ≡ exact_member whole4 four four_is a → from_real x ≡ member (real8 whole a)
 real_member x a e = ap from_real e ∙ from_real-member a
 
-two_member : r2 ≡ exact_member whole4 four four_is four2
-unfolding gcd
-two_member = same_exact r2 (exact_member whole4 four four_is four2) (sym (exact_member-is whole4 four four_is four2))
-
-three_member : r3 ≡ exact_member whole4 four four_is four3
-unfolding gcd
-three_member = same_exact r3 (exact_member whole4 four four_is four3) (sym (exact_member-is whole4 four four_is four3))
-
-six_member : r6 ≡ exact_member whole4 four four_is four6
-unfolding gcd
-six_member = same_exact r6 (exact_member whole4 four four_is four6) (sym (exact_member-is whole4 four four_is four6))
-
 -- units
 pub unit_member : (u : TermUnit) → unit_value u ≡ member (unit8 u)
 unfolding unit8
 unit_member One = sym (exact_member-one whole8 eight eight_is)
 unit_member (Z n) = power_is n
 unit_member I = sym power-6 ∙ power_is 6
-unit_member R2 = real_member r2 four2 two_member
-unit_member R3 = real_member r3 four3 three_member
-unit_member R6 = real_member r6 four6 six_member
+unit_member R2 = real_member r2 four2 r2_member
+unit_member R3 = real_member r3 four3 r3_member
+unit_member R6 = real_member r6 four6 r6_member
 
 -- a whole number times a member
 times-member : (z : ℤ) (a : Eight ℤ) → z24_laws.times (of_whole z24_laws z) (member a) ≡ member (scale8 z a)

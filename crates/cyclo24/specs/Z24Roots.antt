@@ -8,10 +8,11 @@ use Rattle.std.proofs.Common.{◌≡◌, ℕ, zero, suc, ◌+◌, ◌*◌, ◌/�
 use Rattle.cyclo24.specs.FieldOn.{FieldOn}
 use Rattle.cyclo24.specs.ExactField.{Exact}
 use Rattle.cyclo24.specs.FieldLaws.{unit-times}
-use Rattle.cyclo24.specs.Gcd.{lowest_terms}
+use Rattle.cyclo24.specs.Gcd.{gcd, lowest_terms}
+use Rattle.cyclo24.specs.RootsK24.{r2, r3, r6}
 use Rattle.cyclo24.specs.WholeRing.{whole, whole_ring}
 use Rattle.cyclo24.specs.Listed.{is_exact}
-use Rattle.cyclo24.specs.ListedLaws.{exact_laws}
+use Rattle.cyclo24.specs.ListedLaws.{exact_laws, same_exact}
 use Rattle.cyclo24.specs.ExactMaps.{exact_member, exact_member-plus, exact_member-times, exact_member-neg, exact_member-one, exact_map-member, exact_member-is}
 use Rattle.cyclo24.specs.Four.{Four}
 use Rattle.cyclo24.specs.FourNorm.{whole4, four, four_is}
@@ -91,36 +92,48 @@ power8-sum : (m n : ℕ) → z24_laws.plus (power m) (power n) ≡ member (add8 
 power8-sum m n = (λ i. z24_laws.plus (power_is m i) (power_is n i)) ∙ exact_member-plus whole8 eight eight_is (power8 m) (power8 n)
 
 -- sqrt 2 = z^3 + z^21, sqrt 3 = z^2 + z^22, sqrt 6 = z + z^5 + z^19 + z^23
-abbrev pub r2 : Four ℤ
-r2 = record { c0 = pos 0; c1 = pos 1; c2 = pos 0; c3 = pos 0 }
+abbrev pub four2 : Four ℤ
+four2 = record { c0 = pos 0; c1 = pos 1; c2 = pos 0; c3 = pos 0 }
 
-abbrev pub r3 : Four ℤ
-r3 = record { c0 = pos 0; c1 = pos 0; c2 = pos 1; c3 = pos 0 }
+abbrev pub four3 : Four ℤ
+four3 = record { c0 = pos 0; c1 = pos 0; c2 = pos 1; c3 = pos 0 }
 
-abbrev pub r6 : Four ℤ
-r6 = record { c0 = pos 0; c1 = pos 0; c2 = pos 0; c3 = pos 1 }
+abbrev pub four6 : Four ℤ
+four6 = record { c0 = pos 0; c1 = pos 0; c2 = pos 0; c3 = pos 1 }
 
-real8-r2 : real8 whole r2 ≡ add8 whole (power8 3) (power8 21)
+real8-r2 : real8 whole four2 ≡ add8 whole (power8 3) (power8 21)
 unfolding real8 mul8
 real8-r2 = refl
 
-real8-r3 : real8 whole r3 ≡ add8 whole (power8 2) (power8 22)
+real8-r3 : real8 whole four3 ≡ add8 whole (power8 2) (power8 22)
 unfolding real8 mul8
 real8-r3 = refl
 
-real8-r6 : real8 whole r6 ≡ add8 whole (add8 whole (power8 1) (power8 23)) (add8 whole (power8 5) (power8 19))
+real8-r6 : real8 whole four6 ≡ add8 whole (add8 whole (power8 1) (power8 23)) (add8 whole (power8 5) (power8 19))
 unfolding real8 mul8
 real8-r6 = refl
 
-pub from_real-r2 : from_real (exact_member whole4 four four_is r2) ≡ z24_laws.plus (power 3) (power 21)
-from_real-r2 = from_real-member r2 ∙ ap member real8-r2 ∙ sym (power8-sum 3 21)
+pub r2_member : r2 ≡ exact_member whole4 four four_is four2
+unfolding gcd
+r2_member = same_exact r2 (exact_member whole4 four four_is four2) (sym (exact_member-is whole4 four four_is four2))
 
-pub from_real-r3 : from_real (exact_member whole4 four four_is r3) ≡ z24_laws.plus (power 2) (power 22)
-from_real-r3 = from_real-member r3 ∙ ap member real8-r3 ∙ sym (power8-sum 2 22)
+pub r3_member : r3 ≡ exact_member whole4 four four_is four3
+unfolding gcd
+r3_member = same_exact r3 (exact_member whole4 four four_is four3) (sym (exact_member-is whole4 four four_is four3))
 
-pub from_real-r6 : from_real (exact_member whole4 four four_is r6) ≡ z24_laws.plus (z24_laws.plus (power 1) (power 23)) (z24_laws.plus (power 5) (power 19))
+pub r6_member : r6 ≡ exact_member whole4 four four_is four6
+unfolding gcd
+r6_member = same_exact r6 (exact_member whole4 four four_is four6) (sym (exact_member-is whole4 four four_is four6))
+
+pub from_real-r2 : from_real r2 ≡ z24_laws.plus (power 3) (power 21)
+from_real-r2 = ap from_real r2_member ∙ from_real-member four2 ∙ ap member real8-r2 ∙ sym (power8-sum 3 21)
+
+pub from_real-r3 : from_real r3 ≡ z24_laws.plus (power 2) (power 22)
+from_real-r3 = ap from_real r3_member ∙ from_real-member four3 ∙ ap member real8-r3 ∙ sym (power8-sum 2 22)
+
+pub from_real-r6 : from_real r6 ≡ z24_laws.plus (z24_laws.plus (power 1) (power 23)) (z24_laws.plus (power 5) (power 19))
 from_real-r6 =
-    from_real-member r6 ∙ ap member real8-r6 ∙ sym (exact_member-plus whole8 eight eight_is (add8 whole (power8 1) (power8 23)) (add8 whole (power8 5) (power8 19)))
+    ap from_real r6_member ∙ from_real-member four6 ∙ ap member real8-r6 ∙ sym (exact_member-plus whole8 eight eight_is (add8 whole (power8 1) (power8 23)) (add8 whole (power8 5) (power8 19)))
     ∙ sym (λ i. z24_laws.plus (power8-sum 1 23 i) (power8-sum 5 19 i))
 
 -- the coefficients of n powers from the power k on
