@@ -216,3 +216,6 @@ impl Z24 {
         Ok(Text::from_string(s7))
     }
 }
+
+#[cfg(test)]
+mod tests;
