@@ -4,6 +4,22 @@
 //! The contract for the layers above is the trait `Field`.
 #![tactic(auto)]
 
+mod cyclotomic_laws;
 mod field;
+mod fraction4;
+mod fraction8;
+mod k24;
+mod laws;
+mod powers;
+mod print;
+mod terms;
+mod whole;
+mod z24;
 
+pub use cyclotomic_laws::{
+    law_of_conjugation, law_of_parts, law_of_powers, law_of_products_of_parts, law_of_real_numbers,
+};
 pub use field::{Field, Wide};
+pub use k24::K24;
+pub use laws::{law_of_roots, law_of_squares};
+pub use z24::Z24;

@@ -1,0 +1,12 @@
+use Rattle.std.proofs.Common.{rules, ◌∙◌, sym}
+use Rattle.cyclo24.specs.Written8.{and_one}
+use Rattle.cyclo24.specs.CheckedLaws.{then_ok, then_err}
+use Rattle.cyclo24.proofs.fraction8.and_one.Goals as goal
+
+pub returns-in_err-sum : goal.returns-in_err-sum
+unfolding and_one
+returns-in_err-sum c = then_err _ _ c.dot.ensures c.in_err-sum.was (search rules)
+
+pub returns : goal.returns
+unfolding and_one
+returns c = then_ok _ _ c.dot.ensures c.in_ok-sum.was (c.dot-2.ensures)

@@ -1,0 +1,26 @@
+use Rattle.std.proofs.Common.{rules, refl, ◌≡◌, ◌∙◌, sym, ap, arith}
+use Rattle.cyclo24.specs.declared.fraction8.Fraction8.{Fraction8}
+use Rattle.cyclo24.specs.Checked.{answer}
+use Rattle.cyclo24.specs.CheckedLaws.{answer_ok, answer_err}
+use Rattle.cyclo24.specs.Written8.{sum, product, negated, conjugate, real, imaginary, from_four}
+use Rattle.cyclo24.specs.ExactZ24.{z24_laws, conj, real_part, imag_part, from_real}
+use Rattle.cyclo24.specs.Z24Calls.{exact_of8, exact_of4, made_low8, made_value8, made_low4, made_value4, wide_ok, real_ready, real_z24}
+use Rattle.cyclo24.proofs.z24.Z24.real_part.Goals as goal
+
+pub returns-in_err-part-clause-wide : goal.returns-in_err-part-clause-wide
+returns-in_err-part-clause-wide c = let h = answer_err (real c.args.self.fraction) _ (sym c.real.ensures ∙ c.in_err-part.was) in search (rules, h)
+
+pub reduced-requires-clause-narrow : goal.reduced-requires-clause-narrow
+reduced-requires-clause-narrow c = (real_ready c.args.self.fraction c.in_ok-part.part c.args.self.lowest (sym c.real.ensures ∙ c.in_ok-part.was)).0
+
+pub reduced-requires-clause-positive : goal.reduced-requires-clause-positive
+reduced-requires-clause-positive c = (real_ready c.args.self.fraction c.in_ok-part.part c.args.self.lowest (sym c.real.ensures ∙ c.in_ok-part.was)).1
+
+pub invariant_of-result : goal.invariant_of-result
+invariant_of-result c = record { narrow = c.reduced.ensures.narrow; lowest = made_low4 c.reduced.result (real_part (exact_of8 c.args.self.fraction c.args.self.lowest)) (real_z24 c.args.self.fraction c.in_ok-part.part c.reduced.result c.args.self.lowest (sym c.real.ensures ∙ c.in_ok-part.was) c.reduced.ensures.lowest) }
+
+pub returns-clause-exact : goal.returns-clause-exact
+returns-clause-exact c = let h = made_value4 c.reduced.result (real_part (exact_of8 c.args.self.fraction c.args.self.lowest)) (real_z24 c.args.self.fraction c.in_ok-part.part c.reduced.result c.args.self.lowest (sym c.real.ensures ∙ c.in_ok-part.was) c.reduced.ensures.lowest) in search h
+
+pub returns-clause-wide : goal.returns-clause-wide
+returns-clause-wide c = let h = (answer_ok (real c.args.self.fraction) c.in_ok-part.part (sym c.real.ensures ∙ c.in_ok-part.was)).0 in wide_ok _ h

@@ -1,0 +1,14 @@
+use Rattle.std.proofs.Common.{rules, refl, ◌≡◌, ◌∙◌, sym, ap, arith}
+use Rattle.cyclo24.specs.declared.fraction8.Fraction8.{Fraction8}
+use Rattle.cyclo24.specs.Checked.{answer}
+use Rattle.cyclo24.specs.CheckedLaws.{answer_ok, answer_err}
+use Rattle.cyclo24.specs.Written8.{sum, product, negated, conjugate, real, imaginary, from_four}
+use Rattle.cyclo24.specs.ExactZ24.{z24_laws, conj, real_part, imag_part, from_real}
+use Rattle.cyclo24.specs.Z24Calls.{exact_of8, exact_of4, made_low8, made_value8, made_low4, made_value4, wide_ok, negated_z24, negated_narrow8}
+use Rattle.cyclo24.proofs.z24.Z24Field.neg.Goals as goal
+
+pub invariant_of-result : goal.invariant_of-result
+invariant_of-result c = record { narrow = negated_narrow8 c.args.self.fraction c.negated.result c.args.self.narrow c.negated.ensures; lowest = made_low8 c.negated.result (z24_laws.neg (exact_of8 c.args.self.fraction c.args.self.lowest)) (negated_z24 c.args.self.fraction c.negated.result c.args.self.lowest c.negated.ensures) }
+
+pub returns : goal.returns
+returns c = made_value8 c.negated.result (z24_laws.neg (exact_of8 c.args.self.fraction c.args.self.lowest)) (negated_z24 c.args.self.fraction c.negated.result c.args.self.lowest c.negated.ensures) _

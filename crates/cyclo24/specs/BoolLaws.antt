@@ -1,0 +1,25 @@
+-- Tests joined by "and" and "or".
+--
+-- and_left, and_right, and_both: what `a && b` says
+-- or_left, or_right: what `a || b` being false says
+use Rattle.std.proofs.Common.{◌≡◌, refl, Bool, true, false, arith}
+use Rattle.std.specs.Prelude.{◌&&◌, ◌||◌}
+
+pub and_left : (a b : Bool) → (a && b) ≡ true → a ≡ true
+and_left true b e = refl
+and_left false b e = e
+
+pub and_right : (a b : Bool) → (a && b) ≡ true → b ≡ true
+and_right true b e = e
+and_right false b e = absurd (cc)
+
+pub and_both : (a b : Bool) → a ≡ true → b ≡ true → (a && b) ≡ true
+and_both a b e f = grind arith
+
+pub or_left : (a b : Bool) → (a || b) ≡ false → a ≡ false
+or_left true b e = e
+or_left false b e = refl
+
+pub or_right : (a b : Bool) → (a || b) ≡ false → b ≡ false
+or_right true b e = absurd (cc)
+or_right false b e = e

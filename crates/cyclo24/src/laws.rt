@@ -1,0 +1,19 @@
+// The laws of the fields that the layers above rest on, as clauses of functions that do nothing.
+ghost use Rattle.std.specs.Prelude.{◌≡◌, pos};
+ghost use Rattle.cyclo24.specs.ExactK24.{k24_laws};
+ghost use Rattle.cyclo24.specs.Numerals.{of_whole};
+ghost use Rattle.cyclo24.specs.RootsK24.{r2, r3, r6};
+ghost use Rattle.cyclo24.specs.Sums.{IsReal};
+
+/// A sum of squares of real numbers is 0 only where each of them is.
+pub fn law_of_squares()
+    ensures { IsReal k24_laws }
+{}
+
+/// r2 r2 = 2, r3 r3 = 3 and r2 r3 = r6.
+#[tactic(auto, using(crate::specs::RootsK24::r2_square, crate::specs::RootsK24::r3_square))]
+pub fn law_of_roots()
+    ensures two { k24_laws.times r2 r2 ≡ of_whole k24_laws (pos 2) }
+    ensures three { k24_laws.times r3 r3 ≡ of_whole k24_laws (pos 3) }
+    ensures six { k24_laws.times r2 r3 ≡ r6 }
+{}

@@ -1,0 +1,310 @@
+// Whole numbers in 128 bits, and sums of products that are refused where a written number is wide.
+ghost use Rattle.std.specs.Prelude.{◌∷◌, [], ◌≡◌, ◌<◌, ◌^◌, pos, int_lt, true, false, neg_ℤ};
+ghost use Rattle.std.specs.Int.RustNames.{unsigned_abs};
+ghost use Rattle.std.specs.Ordering.{int_eq};
+ghost use Rattle.cyclo24.specs.Gcd.{gcd, quotient};
+ghost use Rattle.cyclo24.specs.Short.{is_short, IsShortProduct};
+ghost use Rattle.cyclo24.specs.Checked.{answer, written, times, plus, term, sum_of, is_wide};
+
+use crate::Wide;
+
+/// The least absolute value that isn't written.
+const LEAST_WIDE: u128 = 1 << 126;
+
+/// The least number that 64 bits don't hold.
+const LEAST_LONG: u128 = 1 << 64;
+
+/// The least absolute value that isn't short.
+const LEAST_NOT_SHORT: i128 = 1 << 28;
+
+/// A whole number of 128 bits.
+#[derive(Clone, Copy, Debug, PartialEq, Eq, PartialOrd, Ord, Hash)]
+pub(crate) struct Whole {
+    pub(crate) n: i128,
+}
+
+// The number, unless it is wide.
+fn narrow(x: i128) -> Result<Whole, Wide>
+    ensures { result ≡ answer (written x) }
+{
+    if x.unsigned_abs() < LEAST_WIDE {
+        Ok(Whole { n: x })
+    } else {
+        Err(Wide)
+    }
+}
+
+// The greatest common divisor of numbers of 64 bits, by Euclid's algorithm.
+#[tactic(auto, using(crate::specs::GcdLaws::gcd_step, crate::specs::GcdLaws::gcd_zero))]
+fn short_euclid(a: u64, b: u64) -> u64
+    ensures { result ≡ gcd a b }
+{
+    let mut x = a;
+    let mut y = b;
+    while y != 0 {
+        let rest = x % y;
+        x = y;
+        y = rest;
+    }
+    x
+}
+
+// The greatest common divisor, in 64 bits where both numbers are so short.
+fn greatest_common(a: u128, b: u128) -> u128
+    ensures { result ≡ gcd a b }
+{
+    if a < LEAST_LONG && b < LEAST_LONG {
+        short_euclid(a as u64, b as u64) as u128
+    } else {
+        euclid(a, b)
+    }
+}
+
+// The greatest common divisor, by Euclid's algorithm.
+#[tactic(auto, using(crate::specs::GcdLaws::gcd_step, crate::specs::GcdLaws::gcd_zero))]
+fn euclid(a: u128, b: u128) -> u128
+    ensures { result ≡ gcd a b }
+{
+    let mut x = a;
+    let mut y = b;
+    while y != 0 {
+        let rest = x % y;
+        x = y;
+        y = rest;
+    }
+    x
+}
+
+impl Whole {
+    /// A number of 64 bits.
+    pub(crate) fn small(n: i64) -> Whole
+        ensures value { result ≡ record { n = n } }
+        ensures narrow { is_wide result.n ≡ false }
+    {
+        Whole { n: n as i128 }
+    }
+
+    /// A number below 2^126 in absolute value.
+    pub(crate) fn of(n: i128) -> Whole
+        requires { unsigned_abs n < 2 ^ 126 }
+        ensures value { result ≡ record { n = n } }
+        ensures narrow { is_wide result.n ≡ false }
+    {
+        Whole { n }
+    }
+
+    /// Whether it is 0.
+    pub(crate) fn is_zero(self) -> bool
+        ensures { result ≡ int_eq self.n (pos 0) }
+    {
+        self.n == 0
+    }
+
+    /// Whether it is 1.
+    pub(crate) fn is_one(self) -> bool
+        ensures { result ≡ int_eq self.n (pos 1) }
+    {
+        self.n == 1
+    }
+
+    /// Whether its absolute value is below 2^28.
+    #[tactic(auto, unfolding(crate::specs::Short::is_short), using(crate::specs::ShortLaws::short_between))]
+    pub(crate) fn is_short(self) -> bool
+        ensures { result ≡ is_short self.n }
+    {
+        -LEAST_NOT_SHORT < self.n && self.n < LEAST_NOT_SHORT
+    }
+
+    /// Whether it is below 0.
+    pub(crate) fn is_negative(self) -> bool
+        ensures { result ≡ int_lt self.n (pos 0) }
+    {
+        self.n < 0
+    }
+
+    /// The absolute value.
+    pub(crate) fn magnitude(self) -> u128
+        requires { is_wide self.n ≡ false }
+        ensures { result ≡ unsigned_abs self.n }
+    {
+        self.n.unsigned_abs()
+    }
+
+    /// -x.
+    pub(crate) fn negated(self) -> Whole
+        requires { is_wide self.n ≡ false }
+        ensures { result ≡ record { n = neg_ℤ self.n } }
+    {
+        Whole { n: -self.n }
+    }
+
+    /// The quotient by a divisor above 0, cut towards 0.
+    pub(crate) fn divided(self, divisor: Whole) -> Whole
+        requires narrow { is_wide self.n ≡ false }
+        requires positive { 0 < unsigned_abs divisor.n }
+        requires upright { divisor.n ≡ pos (unsigned_abs divisor.n) }
+        ensures { result ≡ record { n = quotient self.n (unsigned_abs divisor.n) } }
+    {
+        if divisor.n == 1 {
+            self
+        } else {
+            Whole {
+                n: self.n / divisor.n,
+            }
+        }
+    }
+
+    /// The greatest common divisor.
+    pub(crate) fn common(self, other: Whole) -> Whole
+        requires narrow { is_wide self.n ≡ false }
+        requires narrow_other { is_wide other.n ≡ false }
+        ensures value { result ≡ record { n = pos (gcd (unsigned_abs self.n) (unsigned_abs other.n)) } }
+        ensures positive { 0 < unsigned_abs other.n → 0 < unsigned_abs result.n }
+        ensures narrow { is_wide result.n ≡ false }
+    {
+        Whole {
+            n: greatest_common(self.n.unsigned_abs(), other.n.unsigned_abs()) as i128,
+        }
+    }
+
+    /// x y, unless it is wide.
+    #[tactic(auto, using(crate::specs::CheckedLaws::wide_answer))]
+    pub(crate) fn times(self, other: Whole) -> Result<Whole, Wide>
+        ensures { result ≡ answer (times self other) }
+    {
+        match self.n.checked_mul(other.n) {
+            Some(product) => narrow(product),
+            None => Err(Wide),
+        }
+    }
+
+    /// x + y, unless it is wide.
+    #[tactic(auto, using(crate::specs::CheckedLaws::wide_answer))]
+    pub(crate) fn plus(self, other: Whole) -> Result<Whole, Wide>
+        ensures { result ≡ answer (plus self other) }
+    {
+        match self.n.checked_add(other.n) {
+            Some(sum) => narrow(sum),
+            None => Err(Wide),
+        }
+    }
+}
+
+/// The product of two numbers, times a small factor.
+#[derive(Clone, Copy, Debug)]
+pub(crate) struct Product {
+    pub(crate) factor: Whole,
+    pub(crate) x: Whole,
+    pub(crate) y: Whole,
+}
+
+impl Product {
+    /// Its value, unless it or the product without the factor is wide.
+    fn value(self) -> Result<Whole, Wide>
+        ensures { result ≡ answer (term self) }
+    {
+        let product = self.x.times(self.y)?;
+        self.factor.times(product)
+    }
+}
+
+// A short product with its factor. It is computed in 64 bits.
+fn short_term(p: Product) -> Whole
+    requires { IsShortProduct p }
+    ensures { result ≡ (term p).value }
+{
+    let x = p.x.n as i64;
+    let y = p.y.n as i64;
+    let factor = p.factor.n as i64;
+    Whole {
+        n: (factor * (x * y)) as i128,
+    }
+}
+
+// The sum of two short products.
+fn short_pair(p: Product, q: Product) -> Whole
+    requires first { IsShortProduct p }
+    requires second { IsShortProduct q }
+    ensures { result ≡ (sum_of (p ∷ q ∷ [])).value }
+{
+    let first = short_term(p);
+    let second = short_term(q);
+    Whole {
+        n: first.n + second.n,
+    }
+}
+
+// The sum of four short products.
+fn short_four(p: Product, q: Product, r: Product, s: Product) -> Whole
+    requires first { IsShortProduct p }
+    requires second { IsShortProduct q }
+    requires third { IsShortProduct r }
+    requires fourth { IsShortProduct s }
+    ensures { result ≡ (sum_of (p ∷ q ∷ r ∷ s ∷ [])).value }
+{
+    let first = short_pair(p, q);
+    let second = short_pair(r, s);
+    Whole {
+        n: first.n + second.n,
+    }
+}
+
+/// The product, unless it is wide. `short` may say that both numbers are short; it isn't wide then.
+pub(crate) fn product_of_two(short: bool, x: Whole, y: Whole) -> Result<Whole, Wide>
+    requires { short ≡ true → (unsigned_abs x.n < 2 ^ 28) × (unsigned_abs y.n < 2 ^ 28) }
+    ensures { result ≡ answer (times x y) }
+{
+    if short {
+        Ok(short_term(Product {
+            factor: Whole { n: 1 },
+            x,
+            y,
+        }))
+    } else {
+        x.times(y)
+    }
+}
+
+/// The sum of two products from left to right, unless a written number is wide. `short` may say that
+/// both are short; none of their numbers is wide then.
+pub(crate) fn sum_of_two(short: bool, p: Product, q: Product) -> Result<Whole, Wide>
+    requires { short ≡ true → IsShortProduct p × IsShortProduct q }
+    ensures { result ≡ answer (sum_of (p ∷ q ∷ [])) }
+{
+    if short {
+        Ok(short_pair(p, q))
+    } else {
+        sum_of(&[p, q])
+    }
+}
+
+/// The sum of four products from left to right, unless a written number is wide. `short` may say that
+/// all are short; none of their numbers is wide then.
+pub(crate) fn sum_of_four(
+    short: bool,
+    p: Product,
+    q: Product,
+    r: Product,
+    s: Product,
+) -> Result<Whole, Wide>
+    requires { short ≡ true → IsShortProduct p × IsShortProduct q × IsShortProduct r × IsShortProduct s }
+    ensures { result ≡ answer (sum_of (p ∷ q ∷ r ∷ s ∷ [])) }
+{
+    if short {
+        Ok(short_four(p, q, r, s))
+    } else {
+        sum_of(&[p, q, r, s])
+    }
+}
+
+/// The sum of products from left to right, unless a written number is wide.
+pub(crate) fn sum_of(terms: &[Product]) -> Result<Whole, Wide>
+    ensures { result ≡ answer (sum_of terms.now) }
+{
+    let mut sum = Whole { n: 0 };
+    for term in terms {
+        let value = term.value()?;
+        sum = sum.plus(value)?;
+    }
+    Ok(sum)
+}
