@@ -1,0 +1,7 @@
+mod VectorLemmas
+mod RowLemmas
+mod WriteLemmas
+mod PlaceLemmas
+mod ClearLemmas
+mod PutLemmas
+mod HeldLemmas

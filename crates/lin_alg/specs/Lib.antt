@@ -1,0 +1,14 @@
+pub mod Sums
+pub mod Spans
+pub mod Reduced
+pub mod Rows
+pub mod Insertion
+pub mod Equations
+pub mod Compared
+pub mod Echelon
+pub mod FieldLaws
+pub mod SumLaws
+pub mod SpanLaws
+pub mod InsertLaws
+pub mod UnionLaws
+pub mod EquationLaws
