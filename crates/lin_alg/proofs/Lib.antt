@@ -1,3 +1,4 @@
+mod MemoryLemmas
 mod VectorLemmas
 mod RowLemmas
 mod WriteLemmas

@@ -9,7 +9,7 @@ use Rattle.lin_alg.specs.InsertLaws.{reduce-has, reduce-clear, member-reduce, sp
 use Rattle.lin_alg.specs.Sums.{total}
 use Rattle.lin_alg.specs.Equations.{dot, unit_vector, free_vector}
 use Rattle.lin_alg.specs.Reduced.{IsWithin, PivotsBelow}
-use Rattle.lin_alg.specs.SumLaws.{total-same, total-nought, total-plus, total-times}
+use Rattle.lin_alg.specs.TotalLaws.{total-same, total-nought, total-plus, total-times}
 
 pub dec : (k n : ℕ) → (k < n) ⊎ (n ≤ k)
 dec k n = grind arith

@@ -66,6 +66,18 @@ module _ {K : Type 0} (f : FieldOn K) where
   member-reduce rs v z =
       reduce-back (IsInSpan f rs) (span-subspace rs) rs (span-rows rs) v (subst (IsInSpan f rs) (sym (funext z)) (in_span-nought f rs))
 
+  -- step 1 takes a member of the span away
+  pub reduce-differs : (rs : List (ℕ × (ℕ → K))) (v : ℕ → K) → IsInSpan f rs (less f v f.unit (reduce f rs v))
+  reduce-differs [] v = λ j. less-self f (v j)
+  reduce-differs (r ∷ rs) v =
+      let c : K = v r.0 in
+      let w : ℕ → K = reduce f rs (less f v c r.1) in
+      let swap : (x a b : K) → f.plus (f.plus x a) b ≡ f.plus (f.plus x b) a =
+      λ x a b. f.plus_assoc x a b ∙ ap (f.plus x) (f.plus_comm a b) ∙ sym (f.plus_assoc x b a) in
+      let e : less f (less f v c r.1) f.unit w ≡ less f (less f v f.unit w) c r.1 =
+      funext (λ j. swap (v j) (f.neg (f.times c (r.1 j))) (f.neg (f.times f.unit (w j)))) in
+      (c, subst (IsInSpan f rs) e (reduce-differs rs (less f v c r.1)))
+
   -- steps 4 and 5 keep a reduced form
   pub cleared-past : (q p : ℕ) (u : ℕ → K) (rs : List (ℕ × (ℕ → K))) → u q ≡ f.nought → ArePast f q rs → ArePast f q (cleared f p u rs)
   cleared-past q p u [] z a = tt

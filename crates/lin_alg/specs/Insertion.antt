@@ -3,8 +3,10 @@
 --
 -- IsWideReduce f rows v: taking v to 0 in each pivot column is wide
 -- IsWideInsert f rows v: inserting v into the reduced form is wide
-use Rattle.std.specs.Prelude.{◌≡◌, ℕ, ◌<◌, Bool, true, false, IsTrue, List, [], ◌∷◌, ◌⊎◌}
+use Rattle.std.specs.Prelude.{◌≡◌, ℕ, ◌<◌, false, IsTrue, List, [], ◌∷◌, ◌⊎◌}
 use Rattle.cyclo24.specs.ExactField.{ExactField, Value}
+use Rattle.lin_alg.specs.declared.echelon.Grew.{Grew}
+use Rattle.lin_alg.specs.declared.echelon.Grew.TheVariants.{Yes, No}
 use Rattle.lin_alg.specs.Spans.{less}
 use Rattle.lin_alg.specs.Reduced.{reduce, scaled, inserted}
 use Rattle.lin_alg.specs.Rows.{exact_rows}
@@ -45,7 +47,7 @@ IsWideInsert f rs v =
     × (IsWideScale f p (reduce f.laws rs v) ⊎ IsWideClear f p (scaled f.laws p (reduce f.laws rs v)) rs))
 
 -- the form after an insertion that answers whether the row was new
-abbrev pub IsInserted : {A : Type 0} (f : ExactField) → (A → Value f) → List (ℕ × List A) → (ℕ → Value f) → Bool → List (ℕ × List A) → Type 0
-IsInserted f value old v true new =
+abbrev pub IsInserted : {A : Type 0} (f : ExactField) → (A → Value f) → List (ℕ × List A) → (ℕ → Value f) → Grew → List (ℕ × List A) → Type 0
+IsInserted f value old v Yes new =
     (p : ℕ) × IsLastColumn f (reduce f.laws (exact_rows f value old) v) p × (exact_rows f value new ≡ inserted f.laws (exact_rows f value old) v p)
-IsInserted f value old v false new = ((j : ℕ) → reduce f.laws (exact_rows f value old) v j ≡ f.laws.nought) × (new ≡ old)
+IsInserted f value old v No new = ((j : ℕ) → reduce f.laws (exact_rows f value old) v j ≡ f.laws.nought) × (new ≡ old)

@@ -7,8 +7,10 @@ pub mod Equations
 pub mod Compared
 pub mod Echelon
 pub mod FieldLaws
-pub mod SumLaws
+pub mod TotalLaws
 pub mod SpanLaws
 pub mod InsertLaws
 pub mod UnionLaws
 pub mod EquationLaws
+pub mod FormLaws
+pub mod RowLaws

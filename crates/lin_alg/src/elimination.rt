@@ -5,7 +5,9 @@ ghost use Rattle.lin_alg.specs.Spans.{less};
 ghost use Rattle.lin_alg.specs.Reduced.{reduce, scaled, cleared, placed};
 ghost use Rattle.lin_alg.specs.Rows.{vector, exact_rows, HaveWidth, HaveLength};
 ghost use Rattle.lin_alg.specs.Insertion.{IsLastColumn, IsWideLess, IsWideReduce, IsWideScale, IsWideClear, IsWideInsert, IsInserted};
+ghost use Rattle.lin_alg.specs.declared.echelon.Grew.TheVariants as grew;
 
+use crate::Grew;
 use cyclo24::{Field, Wide};
 
 // Takes c times b from the row.
@@ -133,29 +135,29 @@ pub(crate) fn insert_row<F: Field>(
     lines: &mut Vec<(usize, Vec<F>)>,
     spare: &mut Vec<Vec<F>>,
     row: &mut [F],
-) -> Result<bool, Wide>
+) -> Result<Grew, Wide>
     requires room { vec_len lines.old + vec_len spare.old ≤ vec_capacity lines.old }
     requires some { 0 < vec_len spare.old }
     requires long { HaveLength (length row.old) (map (λ r. r.items) spare.old.items) }
     requires shape { HaveWidth (length row.old) (map (λ r. (r.0, r.1.items)) lines.old.items) }
     ensures room { vec_len lines.new + vec_len spare.new ≤ vec_capacity lines.new }
-    ensures less { IfOk result (λ b. (b ≡ false) → vec_len spare.new ≡ vec_len spare.old) }
+    ensures less { IfOk result (λ g. (g ≡ grew.No) → vec_len spare.new ≡ vec_len spare.old) }
     ensures one { vec_len spare.old ≤ vec_len spare.new + 1 }
     ensures kept { OnErr result (vec_len spare.new ≡ vec_len spare.old) }
     ensures long { HaveLength (length row.old) (map (λ r. r.items) spare.new.items) }
     ensures shape { HaveWidth (length row.old) (map (λ r. (r.0, r.1.items)) lines.new.items) }
-    ensures exact { IfOk result (λ b. IsInserted F.field F.value (map (λ r. (r.0, r.1.items)) lines.old.items) (vector F.field F.value row.old) b (map (λ r. (r.0, r.1.items)) lines.new.items)) }
+    ensures exact { IfOk result (λ g. IsInserted F.field F.value (map (λ r. (r.0, r.1.items)) lines.old.items) (vector F.field F.value row.old) g (map (λ r. (r.0, r.1.items)) lines.new.items)) }
     ensures wide { OnErr result (IsWideInsert F.field (exact_rows F.field F.value (map (λ r. (r.0, r.1.items)) lines.old.items)) (vector F.field F.value row.old)) }
 {
     reduce_row(lines, row)?;
     match last_column(row) {
-        None => Ok(false),
+        None => Ok(Grew::No),
         Some(p) => {
             scale(row, p)?;
             clear_lines(lines, p, row)?;
             let at = place_of(lines, p);
             put_line(lines, spare, at, p, row);
-            Ok(true)
+            Ok(Grew::Yes)
         }
     }
 }
