@@ -6,3 +6,4 @@ mod PlaceLemmas
 mod ClearLemmas
 mod PutLemmas
 mod HeldLemmas
+mod MatrixLemmas

@@ -14,3 +14,5 @@ pub mod UnionLaws
 pub mod EquationLaws
 pub mod FormLaws
 pub mod RowLaws
+pub mod Matrix
+pub mod Matrices

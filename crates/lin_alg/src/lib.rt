@@ -4,7 +4,11 @@
 mod echelon;
 mod elimination;
 mod errors;
+mod matrix;
 mod memory;
+mod row;
 
 pub use echelon::{Echelon, Grew};
 pub use errors::LinError;
+pub use matrix::Matrix;
+pub use row::Row;
