@@ -16,3 +16,5 @@ pub mod FormLaws
 pub mod RowLaws
 pub mod Matrix
 pub mod Matrices
+pub mod Solving
+pub mod SolvingLaws

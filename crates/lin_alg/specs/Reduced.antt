@@ -3,11 +3,12 @@
 --
 -- IsReduced f rows: the rows are such a form
 -- IsPivot p rows: p is one of the pivots
+-- is_pivot p rows, free_columns w rows: the same as a test, and the columns below w without pivot, rising
 -- IsClear f rows v: v is 0 in each pivot column
 -- IsWithin f w v: v is 0 from column w on
 -- IsForm f w rows: a reduced form of w columns
 -- reduce, scaled, cleared, placed, inserted: the written steps of an insertion
-use Rattle.std.specs.Prelude.{◌≡◌, ℕ, ◌≤◌, ◌<◌, ltb, if◌then◌else◌, List, [], ◌∷◌, ◌⊎◌}
+use Rattle.std.specs.Prelude.{◌≡◌, ℕ, suc, zero, ◌≤◌, ◌<◌, Bool, false, ◌||◌, nat_eq, ltb, if◌then◌else◌, List, [], ◌∷◌, ◌++◌, ◌⊎◌}
 use Rattle.cyclo24.specs.FieldOn.{FieldOn}
 use Rattle.lin_alg.specs.Spans.{less, HasRows}
 
@@ -29,6 +30,16 @@ IsReduced f (r ∷ rs) = EndsAt f r.0 r.1 × ArePast f r.0 rs × IsReduced f rs
 abbrev pub IsPivot : {K : Type 0} → ℕ → List (ℕ × (ℕ → K)) → Type 0
 IsPivot p [] = ⊥
 IsPivot p (r ∷ rs) = (p ≡ r.0) ⊎ IsPivot p rs
+
+-- whether p is one of the pivots
+abbrev pub is_pivot : {V : Type 0} → ℕ → List (ℕ × V) → Bool
+is_pivot p [] = false
+is_pivot p (r ∷ rs) = nat_eq p r.0 || is_pivot p rs
+
+-- the columns below w without pivot, rising
+abbrev pub free_columns : {V : Type 0} → ℕ → List (ℕ × V) → List ℕ
+free_columns zero rs = []
+free_columns (suc w) rs = if is_pivot w rs then free_columns w rs else free_columns w rs ++ w ∷ []
 
 -- v is 0 in each pivot column
 abbrev pub IsClear : {K : Type 0} → FieldOn K → List (ℕ × (ℕ → K)) → (ℕ → K) → Type 0
