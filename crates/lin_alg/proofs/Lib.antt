@@ -7,3 +7,5 @@ mod ClearLemmas
 mod PutLemmas
 mod HeldLemmas
 mod MatrixLemmas
+mod SolvingLemmas
+mod FreeLemmas

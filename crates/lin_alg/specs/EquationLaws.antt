@@ -24,7 +24,7 @@ module _ {K : Type 0} (f : FieldOn K) where
   unit-own : (p : ℕ) → unit_vector f p p ≡ f.unit
   unit-own p = ap (λ b. if b then f.unit else f.nought) (eq-self p)
 
-  unit-other : (p k : ℕ) → (k ≡ p → ⊥) → unit_vector f p k ≡ f.nought
+  pub unit-other : (p k : ℕ) → (k ≡ p → ⊥) → unit_vector f p k ≡ f.nought
   unit-other p k n = ap (λ b. if b then f.unit else f.nought) (eq-other k p n)
 
   pub dot-unit : (w : ℕ) (x : ℕ → K) (p : ℕ) → p < w → dot f w x (unit_vector f p) ≡ x p

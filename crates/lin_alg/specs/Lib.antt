@@ -18,3 +18,4 @@ pub mod Matrix
 pub mod Matrices
 pub mod Solving
 pub mod SolvingLaws
+pub mod FreeLaws

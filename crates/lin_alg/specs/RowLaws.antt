@@ -3,7 +3,7 @@
 -- vector-past: a row is 0 behind its end
 -- width-form: reduced rows of one width are a form
 -- equality-told: where the order is that of exact values, equality is too
-use Rattle.std.proofs.Common.{◌≡◌, ◌↔◌, ℕ, Bool, true, ◌<◌, ◌≤◌, refl, sym, ◌∙◌, ap, List, [], ◌∷◌, length, map, get_or, arith}
+use Rattle.std.proofs.Common.{◌≡◌, ◌↔◌, ℕ, Bool, true, ◌<◌, ◌≤◌, refl, sym, ◌∙◌, ap, List, [], ◌∷◌, length, map, get_or, arith, nat_eq, ◌||◌}
 use Rattle.std.proofs.lemmas.List.{get_or_past, length-map}
 use Rattle.std.specs.declared.cmp.Ordering.{Ordering}
 use Rattle.std.specs.Ordering.{eq_by_cmp, is_eq}
@@ -11,7 +11,7 @@ use Rattle.std.specs.Cmp.{Equal-is}
 use Rattle.std.proofs.lemmas.Cmp.{tied_itself}
 use Rattle.cyclo24.specs.ExactField.{ExactField, Value}
 use Rattle.lin_alg.specs.Spans.{HasRows}
-use Rattle.lin_alg.specs.Reduced.{IsReduced, IsForm, IsWithin, PivotsBelow}
+use Rattle.lin_alg.specs.Reduced.{IsReduced, IsForm, IsWithin, PivotsBelow, is_pivot}
 use Rattle.lin_alg.specs.Rows.{vector, exact_rows, HaveWidth}
 
 module _ {A : Type 0} (f : ExactField) (value : A → Value f) where
@@ -29,6 +29,11 @@ module _ {A : Type 0} (f : ExactField) (value : A → Value f) where
   -- reduced rows of one width are a form
   pub width-form : (w : ℕ) (rs : List (ℕ × List A)) → HaveWidth w rs → IsReduced f.laws (exact_rows f value rs) → IsForm f.laws w (exact_rows f value rs)
   width-form w rs a r = record { reduced = r; pivots = width-pivots w rs a; within = width-within w rs a }
+
+-- the exact rows have the same pivots
+pub exact-pivot : {A : Type 0} (f : ExactField) (value : A → Value f) (p : ℕ) (rs : List (ℕ × List A)) → is_pivot p (exact_rows f value rs) ≡ is_pivot p rs
+exact-pivot f value p [] = refl
+exact-pivot f value p (r ∷ rs) = ap (λ b. nat_eq p r.0 || b) (exact-pivot f value p rs)
 
 -- two values are equal exactly where their exact values are, since they compare as those do
 pub equality-told : {A : Type 0} (f : ExactField) (value : A → Value f) (E : A → A → Bool) (R : A → A → Ordering) → ((x y : A) → E x y ≡ eq_by_cmp R x y) →

@@ -10,6 +10,8 @@ ghost use Rattle.lin_alg.specs.Echelon.{IsEchelon, IsSpanned, IsSolution};
 ghost use Rattle.lin_alg.specs.declared.errors.LinError.TheVariants as lin_error;
 ghost use Rattle.lin_alg.specs.declared.echelon.Grew.TheVariants as grew;
 
+mod free;
+
 use crate::LinError;
 use crate::elimination::{insert_row, last_column, reduce_row};
 use crate::memory::{add_spare, copy_lines};

@@ -7,8 +7,10 @@ mod errors;
 mod matrix;
 mod memory;
 mod row;
+mod solving;
 
 pub use echelon::{Echelon, Grew};
 pub use errors::LinError;
 pub use matrix::Matrix;
 pub use row::Row;
+pub use solving::solve;

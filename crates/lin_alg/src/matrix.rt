@@ -49,7 +49,8 @@ impl<F: Field> Matrix<F> {
 
     /// How many rows it has.
     pub fn rows(&self) -> usize
-        ensures { result ≡ self.now.rows }
+        ensures value { result ≡ self.now.rows }
+        ensures small { self.now.rows * self.now.cols < 2 ^ 32 }
     {
         self.rows
     }
