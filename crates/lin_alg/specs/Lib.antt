@@ -19,3 +19,15 @@ pub mod Matrices
 pub mod Solving
 pub mod SolvingLaws
 pub mod FreeLaws
+pub mod Action
+pub mod Fixed
+pub mod Moves
+pub mod Images
+pub mod GroupLaws
+pub mod ActionLaws
+pub mod StabiliserLaws
+pub mod FixedLaws
+pub mod MoverLaws
+pub mod WitnessLaws
+pub mod MoveLaws
+pub mod ImageLaws
