@@ -9,3 +9,4 @@ mod HeldLemmas
 mod MatrixLemmas
 mod SolvingLemmas
 mod FreeLemmas
+mod HashLemmas

@@ -1,3 +1,8 @@
+-- What actions obey.
+--
+-- image-plus, image-same, image-product, image-identity: images of vectors
+-- fixed-plus, fixed-product: what is fixed
+-- fixed-generated: what the generators fix, each element fixes
 use Rattle.std.proofs.Common.{◌≡◌, ℕ, ◌<◌, refl, sym, ◌∙◌, ap, subst, List, [], ◌∷◌, if◌then◌else◌}
 use Rattle.std.specs.Cmp.{nat_eq_equiv}
 use Rattle.cyclo24.specs.ExactField.{ExactField, Value}

@@ -1,3 +1,9 @@
+-- What rows as equations obey.
+--
+-- dot-unit, dot-less: values of a row
+-- free-vanishes: each row of a form vanishes on each free vector
+-- vanish-subspace, within-subspace: the rows that vanish on a vector, and those of w columns, are subspaces
+-- vanishing-span: a row that vanishes where the rows of a form do is in their span
 use Rattle.std.proofs.Common.{◌≡◌, ℕ, suc, zero, ◌<◌, ◌≤◌, ◌⊎◌, inl, inr, Bool, true, false, refl, sym, ◌∙◌, ap, subst, List, [], ◌∷◌, arith, nat_eq, if◌then◌else◌}
 use Rattle.std.proofs.lemmas.Bool.Decides.{eqb_tells}
 use Rattle.cyclo24.specs.FieldOn.{FieldOn}

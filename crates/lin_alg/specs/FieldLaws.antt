@@ -1,3 +1,7 @@
+-- What follows from the laws of a field.
+--
+-- nought-plus, neg-plus, plus-cancel, times-nought, nought-times, unit-times, neg-unique, neg-nought, neg-neg, times-neg, plus-times, plus-swap, neg-plus-neg
+-- less-..: facts on x - c y, one step of an elimination
 use Rattle.std.proofs.Common.{◌≡◌, ℕ, suc, zero, Bool, true, false, refl, sym, ◌∙◌, ap}
 use Rattle.cyclo24.specs.FieldOn.{FieldOn}
 

@@ -1,3 +1,8 @@
+-- Fixed vectors and stabilisers are a Galois connection, for any relation between elements and vectors.
+--
+-- fix-antitone, stab-antitone: more elements fix less, and the other way round
+-- fix-append: what two lists fix is what both fix
+-- fix-stab-fix, stab-fix-stab: Fix(Stab(Fix H)) is Fix H, and Stab(Fix(Stab v)) is Stab v
 use Rattle.std.proofs.Common.{◌≡◌, ℕ, refl, sym, ap, subst, List, [], ◌∷◌, ◌++◌, ◌⊎◌, inl, inr, ◌↔◌}
 use Rattle.lin_alg.specs.Fixed.{Fix, FixesAll, IsFixedByAll, IsIn}
 use Rattle.lin_alg.specs.Spans.{less}

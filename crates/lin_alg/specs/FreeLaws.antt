@@ -2,14 +2,19 @@
 --
 -- free-past: the free vector of a column is 0 before the pivots, but at the column
 -- free-other: at a column without pivot it is 1 where that is its own, else 0
--- free_columns-at: each of the free columns is one
+-- free_columns-at, column-held: the free columns are those below the width without pivot
+-- free-span: a row that vanishes on the free basis of a form is in its span
 use Rattle.std.proofs.Common.{◌≡◌, ℕ, suc, zero, ◌<◌, ◌≤◌, ◌⊎◌, inl, inr, ◌||◌, Bool, true, false, refl, sym, ◌∙◌, ap, subst, List, [], ◌∷◌, ◌++◌, length, arith, nat_eq, if◌then◌else◌}
+use Rattle.std.proofs.lemmas.Bool.Decides.{eqb_tells}
 use Rattle.std.specs.List.{slice_index}
 use Rattle.cyclo24.specs.FieldOn.{FieldOn}
 use Rattle.lin_alg.specs.FieldLaws.{less-at-nought}
-use Rattle.lin_alg.specs.Reduced.{ArePast, is_pivot, free_columns}
-use Rattle.lin_alg.specs.Equations.{unit_vector, free_vector}
-use Rattle.lin_alg.specs.EquationLaws.{unit-other, eq-self}
+use Rattle.lin_alg.specs.Spans.{IsInSpan, HasRows}
+use Rattle.lin_alg.specs.Reduced.{ArePast, IsClear, IsWithin, IsForm, reduce, is_pivot, free_columns}
+use Rattle.lin_alg.specs.InsertLaws.{reduce-has, reduce-clear, member-reduce}
+use Rattle.lin_alg.specs.UnionLaws.{lower}
+use Rattle.lin_alg.specs.Equations.{dot, unit_vector, free_vector}
+use Rattle.lin_alg.specs.EquationLaws.{unit-other, eq-self, dec, dot-clear, free-vanishes, vanish-subspace, within-subspace}
 
 or-false : (a b : Bool) → (a || b) ≡ false → (a ≡ false) × (b ≡ false)
 or-false true b h = let e : true ≡ false = h in absurd cc
@@ -35,6 +40,28 @@ module _ {K : Type 0} (f : FieldOn K) where
   free-other (r ∷ rs) c d h =
       let both = or-false (nat_eq d r.0) (is_pivot d rs) h in
       unit-apart (free_vector f rs c d) (r.1 c) r.0 d (same-differ d r.0 both.0) ∙ free-other rs c d both.1
+
+-- j is an entry of the list
+Held : List ℕ → ℕ → Type 0
+Held cs j = (i : ℕ) × (i < length cs) × (slice_index cs i ≡ j)
+
+held-first : (cs : List ℕ) (c j : ℕ) → Held cs j → Held (cs ++ c ∷ []) j
+unfolding Held
+held-first [] c j h = let l : h.0 < 0 = h.1 in absurd (omega (arith, l))
+held-first (d ∷ cs) c j (zero, l, e) = (zero, omega arith, e)
+held-first (d ∷ cs) c j (suc i, l, e) =
+    let l' : i < length cs = omega (arith, l) in
+    let k = held-first cs c j (i, l', e) in
+    let m : k.0 < length (cs ++ c ∷ []) = k.1 in
+    (suc k.0, omega (arith, m), k.2)
+
+held-last : (cs : List ℕ) (c : ℕ) → Held (cs ++ c ∷ []) c
+unfolding Held
+held-last [] c = (zero, omega arith, refl)
+held-last (d ∷ cs) c =
+    let k = held-last cs c in
+    let m : k.0 < length (cs ++ c ∷ []) = k.1 in
+    (suc k.0, omega (arith, m), k.2)
 
 module _ {V : Type 0} where
   AllFree : ℕ → List (ℕ × V) → List ℕ → Type 0
@@ -72,3 +99,49 @@ module _ {V : Type 0} where
   pub free_columns-at : (w : ℕ) (rs : List (ℕ × V)) (i : ℕ) → i < length (free_columns w rs) →
       (slice_index (free_columns w rs) i < w) × (is_pivot (slice_index (free_columns w rs) i) rs ≡ false)
   free_columns-at w rs i l = all-at w rs (free_columns w rs) (columns-free w rs) i l
+
+  -- each column below the width without pivot is one of the free columns
+  pub column-held : (w : ℕ) (rs : List (ℕ × V)) (j : ℕ) → j < w → is_pivot j rs ≡ false → (i : ℕ) × (i < length (free_columns w rs)) × (slice_index (free_columns w rs) i ≡ j)
+  unfolding Held
+  column-held zero rs j l h = absurd (omega (arith, l))
+  column-held (suc w) rs j l h =
+      let rest : (is_pivot w rs ≡ true → Held (free_columns w rs) j) × (is_pivot w rs ≡ false → Held (free_columns w rs ++ w ∷ []) j) =
+      elim (lower j w l) [
+        | inl m ↦ let k : Held (free_columns w rs) j = column-held w rs j m h in (λ _. k, λ _. held-first (free_columns w rs) w j k)
+        | inr e ↦ (
+            λ t. let t' : true ≡ false = sym t ∙ ap (λ z. is_pivot z rs) (sym e) ∙ h in absurd cc,
+            λ _. subst (Held (free_columns w rs ++ w ∷ [])) (sym e) (held-last (free_columns w rs) w),
+          )
+      ] in
+      (elim (is_pivot w rs) as (λ b. (is_pivot w rs ≡ b) → Held (if b then free_columns w rs else free_columns w rs ++ w ∷ []) j) [
+        | true ↦ rest.0
+        | false ↦ rest.1
+      ]) refl
+
+module _ {K : Type 0} (f : FieldOn K) where
+  clear-at : (rs : List (ℕ × (ℕ → K))) (v : ℕ → K) (p : ℕ) → IsClear f rs v → is_pivot p rs ≡ true → v p ≡ f.nought
+  clear-at [] v p c h = let t : false ≡ true = h in absurd cc
+  clear-at (r ∷ rs) v p c h =
+      elim (eqb_tells p r.0) [
+        | inl m ↦ ap v m.1 ∙ c.0
+        | inr m ↦ clear-at rs v p c.1 (sym (ap (λ b. b || is_pivot p rs) m.0) ∙ h)
+      ]
+
+  -- a row that vanishes on the free basis of a form is in its span
+  pub free-span : (w : ℕ) (rs : List (ℕ × (ℕ → K))) (x : ℕ → K) → IsForm f w rs → IsWithin f w x →
+      ((i : ℕ) → i < length (free_columns w rs) → dot f w x (free_vector f rs (slice_index (free_columns w rs) i)) ≡ f.nought) → IsInSpan f rs x
+  free-span w rs x form within h =
+      member-reduce f rs x (λ j. elim (dec j w) [
+        | inr l ↦ reduce-has f (IsWithin f w) (within-subspace f w) rs form.within x within j l
+        | inl l ↦
+            (elim (is_pivot j rs) as (λ b. (is_pivot j rs ≡ b) → reduce f rs x j ≡ f.nought) [
+              | true ↦ λ p. clear-at rs (reduce f rs x) j (reduce-clear f rs x form.reduced) p
+              | false ↦ λ p.
+                  let k = column-held w rs j l p in
+                  let v : ℕ → K = free_vector f rs j in
+                  let rows : HasRows (λ y. dot f w y v ≡ f.nought) rs = free-vanishes f w rs j l form.pivots form.reduced in
+                  let own : dot f w x v ≡ f.nought = subst (λ (z : ℕ). dot f w x (free_vector f rs z) ≡ f.nought) k.2 (h k.0 k.1) in
+                  sym (dot-clear f w rs (reduce f rs x) j l form.pivots (reduce-clear f rs x form.reduced))
+                  ∙ reduce-has f (λ y. dot f w y v ≡ f.nought) (vanish-subspace f w v) rs rows x own
+            ]) refl
+      ])

@@ -1,3 +1,8 @@
+-- What the steps of an insertion do to spans and reduced forms.
+--
+-- span-subspace, span-least: the span is the least subspace with the rows
+-- reduce-..: what is left of a row, 0 in each pivot column, differs from it by a member
+-- inserted-reduced: the form stays reduced; inserted-within, inserted-has: its span is that with the row
 use Rattle.std.proofs.Common.{◌≡◌, ℕ, suc, zero, ◌<◌, ◌≤◌, ◌⊎◌, inl, inr, Bool, true, false, refl, sym, ◌∙◌, ap, subst, List, [], ◌∷◌, arith, ltb, if◌then◌else◌}
 use Rattle.std.proofs.lemmas.Bool.{ltb-true, ltb-false}
 use Rattle.cyclo24.specs.FieldOn.{FieldOn}

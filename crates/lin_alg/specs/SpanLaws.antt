@@ -1,3 +1,9 @@
+-- What spans and reduced forms obey.
+--
+-- in_span-..: members of a span
+-- clear-nought: a member that is 0 in each pivot column is 0
+-- last-pivot: the last nonzero column of a member is a pivot
+-- reduced-unique: two reduced forms of one span are equal
 use Rattle.std.proofs.Common.{◌≡◌, ℕ, suc, zero, ◌<◌, ◌≤◌, ◌⊎◌, inl, inr, Bool, true, false, refl, sym, ◌∙◌, ap, subst, List, [], ◌∷◌, arith}
 use Rattle.cyclo24.specs.FieldOn.{FieldOn}
 use Rattle.lin_alg.specs.Spans.{less, IsInSpan}

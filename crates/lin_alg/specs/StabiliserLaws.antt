@@ -1,3 +1,8 @@
+-- A subspace has a vector whose stabiliser is the pointwise stabiliser of the subspace.
+--
+-- generic_member: a member of a subspace that lies only in those of finitely many subspaces that hold all of it
+-- fixed-subspace: what an element fixes is a subspace
+-- whole_stabiliser: a vector fixed by nothing more than the subspace is
 use Rattle.std.proofs.Common.{◌≡◌, ℕ, suc, zero, ◌<◌, ◌≤◌, ◌⊎◌, inl, inr, Bool, true, false, refl, sym, ◌∙◌, ap, subst, arith}
 use Rattle.cyclo24.specs.FieldOn.{FieldOn, ones}
 use Rattle.cyclo24.specs.ExactField.{ExactField, Value}

@@ -1,3 +1,7 @@
+-- What finite sums obey.
+--
+-- total-same: equal terms; total-nought: zero terms; total-plus: sums of terms; total-times, times-total: multiples
+-- total-swap: the order of two sums
 use Rattle.std.proofs.Common.{◌≡◌, ℕ, suc, zero, ◌<◌, ◌≤◌, refl, sym, ◌∙◌, ap, arith}
 use Rattle.cyclo24.specs.FieldOn.{FieldOn}
 use Rattle.lin_alg.specs.FieldLaws.{plus-swap, times-nought, nought-times}

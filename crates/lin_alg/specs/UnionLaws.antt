@@ -1,3 +1,7 @@
+-- A space over a field where no sum of ones is 0 is no finite union of proper subspaces.
+--
+-- two-points: a subspace that holds two points of a line holds the line
+-- avoiding: a vector outside finitely many proper subspaces
 use Rattle.std.proofs.Common.{◌≡◌, ℕ, suc, zero, ◌<◌, ◌≤◌, ◌+◌, ◌-◌, zero-add, ◌⊎◌, inl, inr, Bool, true, false, refl, sym, ◌∙◌, ap, subst, arith}
 use Rattle.cyclo24.specs.FieldOn.{FieldOn, ones}
 use Rattle.lin_alg.specs.Spans.{less, IsSubspace}

@@ -1,15 +1,23 @@
-use Rattle.std.proofs.Common.{◌≡◌, ℕ, suc, zero, ◌<◌, ◌≤◌, ◌⊎◌, inl, inr, Bool, true, false, refl, sym, ◌∙◌, ap, subst, List, [], ◌∷◌, ◌↔◌, arith}
+-- What an element does to the vectors on which a form vanishes.
+--
+-- fixed-or: an element fixes a vector or not
+-- moved-or, moved-free: it fixes all on which the rows of a form vanish, or moves one, one of the free basis
+-- free-fixed: what fixes the free basis fixes all
+-- form-stabiliser: one vector is fixed by nothing more than all on which the rows vanish
+use Rattle.std.proofs.Common.{◌≡◌, ℕ, suc, zero, ◌<◌, ◌≤◌, ◌⊎◌, inl, inr, Bool, true, false, refl, sym, ◌∙◌, ap, subst, List, [], ◌∷◌, ◌↔◌, arith, length}
+use Rattle.std.specs.List.{slice_index}
 use Rattle.cyclo24.specs.FieldOn.{FieldOn, ones}
 use Rattle.cyclo24.specs.ExactField.{ExactField, Value}
 use Rattle.lin_alg.specs.Action.{Action, IsFixed, image}
 use Rattle.lin_alg.specs.EquationLaws.{dec, dot-clear, free-vanishes, vanish-subspace, within-subspace}
 use Rattle.lin_alg.specs.Equations.{Vanishes, dot, free_vector}
 use Rattle.lin_alg.specs.FieldLaws.{neg-neg, neg-unique}
+use Rattle.lin_alg.specs.FreeLaws.{free-span}
 use Rattle.lin_alg.specs.Fixed.{FixesAll, mover}
 use Rattle.lin_alg.specs.FormLaws.{vanishes-subspace}
 use Rattle.lin_alg.specs.InsertLaws.{member-reduce, reduce-clear, reduce-has, span-least}
 use Rattle.lin_alg.specs.MoverLaws.{mover-row, mover-within}
-use Rattle.lin_alg.specs.Reduced.{IsForm, IsWithin, reduce}
+use Rattle.lin_alg.specs.Reduced.{free_columns, IsForm, IsWithin, reduce}
 use Rattle.lin_alg.specs.Rows.{vector}
 use Rattle.lin_alg.specs.Spans.{IsInSpan}
 use Rattle.lin_alg.specs.StabiliserLaws.{whole_stabiliser}
@@ -37,6 +45,16 @@ module _ {K : Type 0} (f : FieldOn K) where
         | false ↦ λ h. inr (λ e.
             let t : true ≡ false = sym f.is_nought-nought ∙ ap f.is_nought (sym (ap (λ a. f.plus a (f.neg y)) e ∙ f.plus-neg y)) ∙ h in cc)
       ]) refl
+
+module _ {K : Type 0} (f : FieldOn K) where
+  -- rows vanish on a vector or not
+  pub vanishes-or : (w : ℕ) (rs : List (ℕ × (ℕ → K))) (v : ℕ → K) → Vanishes f w rs v ⊎ (Vanishes f w rs v → ⊥)
+  vanishes-or w [] v = inl tt
+  vanishes-or w (r ∷ rs) v =
+      elim (same-or f (dot f w r.1 v) f.nought) [
+        | inr n ↦ inr (λ h. n h.0)
+        | inl e ↦ elim (vanishes-or w rs v) [ inl h ↦ inl (e, h) | inr n ↦ inr (λ h. n h.1) ]
+      ]
 
 module _ (f : ExactField) (act : Action) where
   -- an element leaves a vector as it is, or not
@@ -86,3 +104,25 @@ module _ (f : ExactField) (act : Action) where
   form-stabiliser rs r =
       let t = whole_stabiliser f act (Vanishes f.laws act.dim rs) (vanishes-subspace f.laws act.dim rs) fixed-or (moved-or rs r) in
       (t.0, t.1, λ q l. (λ a. a t.0 t.1, λ h. t.2 q l h))
+
+  -- what fixes each vector of the free basis of a form fixes all on which its rows vanish
+  pub free-fixed : (rs : List (ℕ × (ℕ → Value f))) → IsForm f.laws act.dim rs → (q : ℕ) →
+      ((i : ℕ) → i < length (free_columns act.dim rs) → IsFixed f act q (free_vector f.laws rs (slice_index (free_columns act.dim rs) i))) →
+      (v : ℕ → Value f) → Vanishes f.laws act.dim rs v → IsFixed f act q v
+  free-fixed rs r q h v k i l =
+      let x : ℕ → Value f = mover f act q i in
+      let own : IsInSpan f.laws rs x = free-span f.laws act.dim rs x r (mover-within f act q i) (λ c m.
+      (mover-row f act q i (free_vector f.laws rs (slice_index (free_columns act.dim rs) c)) l).1 (h c m i l)) in
+      (mover-row f act q i v l).0 (span-least f.laws (λ y. dot f.laws act.dim y v ≡ f.laws.nought) (vanish-subspace f.laws act.dim v) rs k x own)
+
+  -- an element fixes all on which the rows of a form vanish, or moves a vector of its free basis
+  pub moved-free : (rs : List (ℕ × (ℕ → Value f))) → IsForm f.laws act.dim rs → (q : ℕ) →
+      ((v : ℕ → Value f) → Vanishes f.laws act.dim rs v → IsFixed f act q v)
+      ⊎ ((i : ℕ) × (i < length (free_columns act.dim rs)) × (IsFixed f act q (free_vector f.laws rs (slice_index (free_columns act.dim rs) i)) → ⊥))
+  moved-free rs r q =
+      elim (each-or (λ i. IsFixed f act q (free_vector f.laws rs (slice_index (free_columns act.dim rs) i)))
+          (λ i. IsFixed f act q (free_vector f.laws rs (slice_index (free_columns act.dim rs) i)) → ⊥) (length (free_columns act.dim rs))
+          (λ i l. fixed-or q (free_vector f.laws rs (slice_index (free_columns act.dim rs) i)))) [
+        | inl a ↦ inl (λ v k. free-fixed rs r q a v k)
+        | inr b ↦ inr b
+      ]

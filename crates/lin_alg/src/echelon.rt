@@ -10,6 +10,7 @@ ghost use Rattle.lin_alg.specs.Echelon.{IsEchelon, IsSpanned, IsSolution};
 ghost use Rattle.lin_alg.specs.declared.errors.LinError.TheVariants as lin_error;
 ghost use Rattle.lin_alg.specs.declared.echelon.Grew.TheVariants as grew;
 
+mod compare;
 mod free;
 
 use crate::LinError;
