@@ -54,9 +54,9 @@ pick k i l j =
     elim (eqb_tells k i) [
       | inr h ↦ inr (λ e _. h.1 e, ap (λ b. b && nat_eq l j) h.0)
       | inl h ↦ elim (eqb_tells l j) [
-          | inr m ↦ inr (λ _ e. m.1 e, λ z. h.0 z && m.0 z)
-          | inl m ↦ inl (h.1, m.1, λ z. h.0 z && m.0 z)
-        ]
+        | inr m ↦ inr (λ _ e. m.1 e, λ z. h.0 z && m.0 z)
+        | inl m ↦ inl (h.1, m.1, λ z. h.0 z && m.0 z)
+      ]
     ]
 
 module _ {A : Type 0} (f : ExactField) (value : A → Value f) where
@@ -87,12 +87,12 @@ module _ {A : Type 0} (f : ExactField) (value : A → Value f) where
             (λ z. entry f value new (h.0 z) (h.1 z)) ∙ entry-inside new i j lc ∙ vector-set_same f value m.entries (i * m.cols + j) x below
             ∙ sym (ap (λ b. if b then value x else entry f value m k l) h.2)
         | inr h ↦ elim (dec l m.cols) [
-            | inl b ↦
-                entry-inside new k l b
-                ∙ vector-set_other f value m.entries (i * m.cols + j) (k * m.cols + l) x (λ q. let both = place-apart m.cols i j k l lc b q in h.0 both.0 both.1)
-                ∙ sym (entry-inside m k l b) ∙ sym (ap (λ b. if b then value x else entry f value m k l) h.1)
-            | inr p ↦ entry-right new k l p ∙ sym (entry-right m k l p) ∙ sym (ap (λ b. if b then value x else entry f value m k l) h.1)
-          ]
+          | inl b ↦
+              entry-inside new k l b
+              ∙ vector-set_other f value m.entries (i * m.cols + j) (k * m.cols + l) x (λ q. let both = place-apart m.cols i j k l lc b q in h.0 both.0 both.1)
+              ∙ sym (entry-inside m k l b) ∙ sym (ap (λ b. if b then value x else entry f value m k l) h.1)
+          | inr p ↦ entry-right new k l p ∙ sym (entry-right m k l p) ∙ sym (ap (λ b. if b then value x else entry f value m k l) h.1)
+        ]
       ]
 
   -- an entry, where the list holds the entries of a product row by row
@@ -104,12 +104,12 @@ module _ {A : Type 0} (f : ExactField) (value : A → Value f) where
       elim (dec j m) [
         | inr k ↦ entry-right all i j k ∙ sym (right i j k)
         | inl k ↦ elim (dec i n) [
-            | inr l ↦ entry-under all i j e l ∙ sym (under i j l)
-            | inl l ↦
-                let below : i * m + j < n * m = place-below n i m j l k in
-                let in_list : i * m + j < length xs = omega arith in
-                entry-inside all i j k ∙ h (i * m + j) in_list ∙ (λ z. t (div-mul-add i m j k z) (mod-mul-add i m j k z))
-          ]
+          | inr l ↦ entry-under all i j e l ∙ sym (under i j l)
+          | inl l ↦
+              let below : i * m + j < n * m = place-below n i m j l k in
+              let in_list : i * m + j < length xs = omega arith in
+              entry-inside all i j k ∙ h (i * m + j) in_list ∙ (λ z. t (div-mul-add i m j k z) (mod-mul-add i m j k z))
+        ]
       ]
 
   pub mul-under : (d : ℕ) (a b : MatrixView A) → length a.entries ≡ a.rows * a.cols → (i j : ℕ) → a.rows ≤ i → mul f.laws d (entry f value a) (entry f value b) i j ≡ f.laws.nought

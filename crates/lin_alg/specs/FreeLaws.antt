@@ -109,9 +109,9 @@ module _ {V : Type 0} where
       elim (lower j w l) [
         | inl m ↦ let k : Held (free_columns w rs) j = column-held w rs j m h in (λ _. k, λ _. held-first (free_columns w rs) w j k)
         | inr e ↦ (
-            λ t. let t' : true ≡ false = sym t ∙ ap (λ z. is_pivot z rs) (sym e) ∙ h in absurd cc,
-            λ _. subst (Held (free_columns w rs ++ w ∷ [])) (sym e) (held-last (free_columns w rs) w),
-          )
+          λ t. let t' : true ≡ false = sym t ∙ ap (λ z. is_pivot z rs) (sym e) ∙ h in absurd cc,
+          λ _. subst (Held (free_columns w rs ++ w ∷ [])) (sym e) (held-last (free_columns w rs) w),
+        )
       ] in
       (elim (is_pivot w rs) as (λ b. (is_pivot w rs ≡ b) → Held (if b then free_columns w rs else free_columns w rs ++ w ∷ []) j) [
         | true ↦ rest.0

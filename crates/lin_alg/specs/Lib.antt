@@ -31,3 +31,4 @@ pub mod MoverLaws
 pub mod WitnessLaws
 pub mod MoveLaws
 pub mod ImageLaws
+pub mod CompareLaws

@@ -118,7 +118,7 @@ module _ {K : Type 0} (f : FieldOn K) (n : ℕ) (a : ℕ → ℕ → K) where
   pub solution-only : AreIndependent f n a → (t x y : ℕ → K) → ((j : ℕ) → combination f n x a j ≡ t j) → ((j : ℕ) → combination f n y a j ≡ t j) → (i : ℕ) → i < n → y i ≡ x i
   solution-only ind t x y h k i l =
       less-same f (y i) (x i) (ind (less f y f.unit x) (λ j.
-        combination-less y f.unit x j ∙ (λ z. f.plus (k j z) (f.neg (f.times f.unit (h j z)))) ∙ ap (λ z. f.plus (t j) (f.neg z)) (unit-times f (t j)) ∙ f.plus-neg (t j)) i l)
+      combination-less y f.unit x j ∙ (λ z. f.plus (k j z) (f.neg (f.times f.unit (h j z)))) ∙ ap (λ z. f.plus (t j) (f.neg z)) (unit-times f (t j)) ∙ f.plus-neg (t j)) i l)
 
   -- each pivot of independent joined rows is behind the front
   PivotsFrom : List (ℕ × (ℕ → K)) → Type 0

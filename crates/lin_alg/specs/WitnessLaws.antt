@@ -30,9 +30,9 @@ each-or P R (suc n) d =
     elim (each-or P R n (λ i l. d i (omega arith))) [
       | inr r ↦ let l : r.0 < suc n = let h = r.1 in omega arith in inr (r.0, l, r.2)
       | inl a ↦ elim (d n (omega arith)) [
-          | inr r ↦ let l : n < suc n = omega arith in inr (n, l, r)
-          | inl p ↦ inl (λ i l. elim (lower i n l) [ inl k ↦ a i k | inr e ↦ subst P (sym e) p ])
-        ]
+        | inr r ↦ let l : n < suc n = omega arith in inr (n, l, r)
+        | inl p ↦ inl (λ i l. elim (lower i n l) [ inl k ↦ a i k | inr e ↦ subst P (sym e) p ])
+      ]
     ]
 
 module _ {K : Type 0} (f : FieldOn K) where
@@ -78,7 +78,7 @@ module _ (f : ExactField) (act : Action) where
       ⊎ ((v : ℕ → Value f) × Vanishes f.laws act.dim rs v × (IsFixed f act q v → ⊥))
   moved-or rs r q =
       elim (each-or (λ i. (j : ℕ) → j < act.dim → reduce f.laws rs (mover f act q i) j ≡ f.laws.nought)
-          (λ i. (j : ℕ) × (j < act.dim) × (reduce f.laws rs (mover f act q i) j ≡ f.laws.nought → ⊥)) act.dim (λ i l. row-or rs q i)) [
+      (λ i. (j : ℕ) × (j < act.dim) × (reduce f.laws rs (mover f act q i) j ≡ f.laws.nought → ⊥)) act.dim (λ i l. row-or rs q i)) [
         | inl a ↦ inl (λ v k i l.
             let x : ℕ → Value f = mover f act q i in
             let own : IsInSpan f.laws rs x = member-reduce f.laws rs x (λ j. elim (dec j act.dim) [
@@ -92,9 +92,13 @@ module _ (f : ExactField) (act : Action) where
             let x : ℕ → Value f = mover f act q i in
             let v : ℕ → Value f = free_vector f.laws rs j in
             let k : Vanishes f.laws act.dim rs v = free-vanishes f.laws act.dim rs j b.2.1 r.pivots r.reduced in
-            inr (v, k, λ h. b.2.2 (
-              sym (dot-clear f.laws act.dim rs (reduce f.laws rs x) j b.2.1 r.pivots (reduce-clear f.laws rs x r.reduced))
-              ∙ reduce-has f.laws (λ y. dot f.laws act.dim y v ≡ f.laws.nought) (vanish-subspace f.laws act.dim v) rs k x ((mover-row f act q i v b.1).1 (h i b.1))))
+            inr (
+              v,
+              k,
+              λ h. b.2.2 (
+                  sym (dot-clear f.laws act.dim rs (reduce f.laws rs x) j b.2.1 r.pivots (reduce-clear f.laws rs x r.reduced))
+                  ∙ reduce-has f.laws (λ y. dot f.laws act.dim y v ≡ f.laws.nought) (vanish-subspace f.laws act.dim v) rs k x ((mover-row f act q i v b.1).1 (h i b.1))),
+            )
       ]
 
   -- the null space of a form has a vector whose stabiliser is the space's own
@@ -121,8 +125,8 @@ module _ (f : ExactField) (act : Action) where
       ⊎ ((i : ℕ) × (i < length (free_columns act.dim rs)) × (IsFixed f act q (free_vector f.laws rs (slice_index (free_columns act.dim rs) i)) → ⊥))
   moved-free rs r q =
       elim (each-or (λ i. IsFixed f act q (free_vector f.laws rs (slice_index (free_columns act.dim rs) i)))
-          (λ i. IsFixed f act q (free_vector f.laws rs (slice_index (free_columns act.dim rs) i)) → ⊥) (length (free_columns act.dim rs))
-          (λ i l. fixed-or q (free_vector f.laws rs (slice_index (free_columns act.dim rs) i)))) [
+      (λ i. IsFixed f act q (free_vector f.laws rs (slice_index (free_columns act.dim rs) i)) → ⊥) (length (free_columns act.dim rs))
+      (λ i l. fixed-or q (free_vector f.laws rs (slice_index (free_columns act.dim rs) i)))) [
         | inl a ↦ inl (λ v k. free-fixed rs r q a v k)
         | inr b ↦ inr b
       ]

@@ -1,10 +1,10 @@
 // Why a call gave no answer.
+ghost use Rattle.std.specs.Prelude.{◌≡◌};
+ghost use Rattle.lin_alg.specs.declared.errors.LinError.TheVariants as lin_error;
+
 use cyclo24::Wide;
 use iso_text::NoMemory;
 use thiserror::Error;
-
-ghost use Rattle.std.specs.Prelude.{◌≡◌};
-ghost use Rattle.lin_alg.specs.declared.errors.LinError.TheVariants as lin_error;
 
 /// Why a call of linear algebra gave no answer.
 #[derive(Clone, Copy, Debug, PartialEq, Eq, Error)]

@@ -15,7 +15,8 @@ pub use acts::Acts;
 pub use echelon::{Echelon, Grew};
 pub use errors::LinError;
 pub use laws::{
-    equal_by_value, fixed_vectors, forms_are_equations, forms_are_unique, images, no_finite_union,
+    equal_by_value, equal_forms, fixed_vectors, forms_are_equations, forms_are_unique, images,
+    no_finite_union,
 };
 pub use matrix::Matrix;
 pub use row::Row;

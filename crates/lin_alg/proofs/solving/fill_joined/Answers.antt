@@ -24,9 +24,9 @@ returns g c =
     let l : length c.loop-p.row ≤ c.loop-p.p = omega arith in
     written-all f v (joined m.rows (unit_vector f.laws c.args.i) (entry f v m c.args.i)) (vector f v c.args.row.now) c.loop-p.row c.loop-p.p l
     (λ k h.
-      let w : length c.loop-p.row ≡ length c.args.row.now = c.loop-p.auto.row in
-      let e = c.requires.width in
-      let past : m.rows ≤ k = omega arith in
-      let right : m.cols ≤ k - m.rows = omega arith in
-      joined-past m.rows (unit_vector f.laws c.args.i) (entry f v m c.args.i) k past ∙ entry-right f v m c.args.i (k - m.rows) right)
+    let w : length c.loop-p.row ≡ length c.args.row.now = c.loop-p.auto.row in
+    let e = c.requires.width in
+    let past : m.rows ≤ k = omega arith in
+    let right : m.cols ≤ k - m.rows = omega arith in
+    joined-past m.rows (unit_vector f.laws c.args.i) (entry f v m c.args.i) k past ∙ entry-right f v m c.args.i (k - m.rows) right)
     c.loop-p.invariant

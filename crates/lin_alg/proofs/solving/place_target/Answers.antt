@@ -39,9 +39,9 @@ returns g c =
     let l : length c.loop-p.row ≤ c.loop-p.p = omega arith in
     written-all f v (joined c.args.n (λ _. f.laws.nought) (vector f v c.args.target.now)) (vector f v c.args.row.now) c.loop-p.row c.loop-p.p l
     (λ k h.
-      let w : length c.loop-p.row ≡ length c.args.row.now = c.loop-p.auto.row in
-      let e = c.requires.width in
-      let past : c.args.n ≤ k = omega arith in
-      let right : length c.args.target.now ≤ k - c.args.n = omega arith in
-      joined-past c.args.n (λ _. f.laws.nought) (vector f v c.args.target.now) k past ∙ vector-past f v c.args.target.now (k - c.args.n) right)
+    let w : length c.loop-p.row ≡ length c.args.row.now = c.loop-p.auto.row in
+    let e = c.requires.width in
+    let past : c.args.n ≤ k = omega arith in
+    let right : length c.args.target.now ≤ k - c.args.n = omega arith in
+    joined-past c.args.n (λ _. f.laws.nought) (vector f v c.args.target.now) k past ∙ vector-past f v c.args.target.now (k - c.args.n) right)
     c.loop-p.invariant
