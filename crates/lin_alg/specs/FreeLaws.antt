@@ -3,8 +3,9 @@
 -- free-past: the free vector of a column is 0 before the pivots, but at the column
 -- free-other: at a column without pivot it is 1 where that is its own, else 0
 -- free_columns-at, column-held: the free columns are those below the width without pivot
+-- free-count: there are as many as columns less rows
 -- free-span: a row that vanishes on the free basis of a form is in its span
-use Rattle.std.proofs.Common.{◌≡◌, ℕ, suc, zero, ◌<◌, ◌≤◌, ◌⊎◌, inl, inr, ◌||◌, Bool, true, false, refl, sym, ◌∙◌, ap, subst, List, [], ◌∷◌, ◌++◌, length, arith, nat_eq, if◌then◌else◌}
+use Rattle.std.proofs.Common.{◌≡◌, ℕ, suc, zero, ◌<◌, ◌≤◌, ◌⊎◌, inl, inr, ◌||◌, ◌+◌, lt-ltb, le-ltb, ltb, Bool, true, false, refl, sym, ◌∙◌, ap, subst, List, [], ◌∷◌, ◌++◌, length, arith, nat_eq, if◌then◌else◌}
 use Rattle.std.proofs.lemmas.Bool.Decides.{eqb_tells}
 use Rattle.std.specs.List.{slice_index}
 use Rattle.cyclo24.specs.FieldOn.{FieldOn}
@@ -13,8 +14,9 @@ use Rattle.lin_alg.specs.Spans.{IsInSpan, HasRows}
 use Rattle.lin_alg.specs.Reduced.{ArePast, IsClear, IsWithin, IsForm, reduce, is_pivot, free_columns}
 use Rattle.lin_alg.specs.InsertLaws.{reduce-has, reduce-clear, member-reduce}
 use Rattle.lin_alg.specs.UnionLaws.{lower}
+use Rattle.lin_alg.specs.SpanLaws.{order}
 use Rattle.lin_alg.specs.Equations.{dot, unit_vector, free_vector}
-use Rattle.lin_alg.specs.EquationLaws.{unit-other, eq-self, dec, dot-clear, free-vanishes, vanish-subspace, within-subspace}
+use Rattle.lin_alg.specs.EquationLaws.{unit-other, eq-self, eq-other, dec, dot-clear, free-vanishes, vanish-subspace, within-subspace}
 
 or-false : (a b : Bool) → (a || b) ≡ false → (a ≡ false) × (b ≡ false)
 or-false true b h = let e : true ≡ false = h in absurd cc
@@ -145,3 +147,85 @@ module _ {K : Type 0} (f : FieldOn K) where
                   ∙ reduce-has f (λ y. dot f w y v ≡ f.nought) (vanish-subspace f w v) rs rows x own
             ]) refl
       ])
+
+-- each pivot is past p
+abbrev pub AllPast : {V : Type 0} → ℕ → List (ℕ × V) → Type 0
+AllPast p [] = Unit {0}
+AllPast p (r ∷ rs) = (p < r.0) × AllPast p rs
+
+-- the pivots rise, and are below w
+abbrev pub AreRising : {V : Type 0} → ℕ → List (ℕ × V) → Type 0
+AreRising w [] = Unit {0}
+AreRising w (r ∷ rs) = (r.0 < w) × AllPast r.0 rs × AreRising w rs
+
+-- how many pivots are below w
+abbrev below : {V : Type 0} → ℕ → List (ℕ × V) → ℕ
+below w [] = 0
+below w (r ∷ rs) = if ltb r.0 w then suc (below w rs) else below w rs
+
+abbrev digit : Bool → ℕ
+digit b = if b then 1 else 0
+
+length-last : (xs : List ℕ) (x : ℕ) → length (xs ++ x ∷ []) ≡ length xs + 1
+length-last [] x = refl
+length-last (y ∷ xs) x = let e : length (xs ++ x ∷ []) ≡ length xs + 1 = length-last xs x in omega (arith, e)
+
+module _ {V : Type 0} where
+  past-none : (p : ℕ) (rs : List (ℕ × V)) → AllPast p rs → is_pivot p rs ≡ false
+  past-none p [] a = refl
+  past-none p (r ∷ rs) a =
+      let n : p ≡ r.0 → ⊥ = λ e. let l : p < r.0 = a.0 in absurd (omega (arith, e, l)) in
+      λ i. eq-other p r.0 n i || past-none p rs a.1 i
+
+  -- one more column has one more pivot where it is one
+  below-step : (w v : ℕ) (rs : List (ℕ × V)) → AreRising v rs → below (suc w) rs ≡ below w rs + digit (is_pivot w rs)
+  below-step w v [] a = refl
+  below-step w v (r ∷ rs) a =
+      let rest : below (suc w) rs ≡ below w rs + digit (is_pivot w rs) = below-step w v rs a.2 in
+      let more : ℕ → Bool → ℕ = λ n b. if b then suc n else n in
+      elim (order r.0 w) [
+        | inl l ↦
+            let n : w ≡ r.0 → ⊥ = λ e. absurd (omega (arith, e, l)) in
+            let l' : r.0 < suc w = omega (arith, l) in
+            ap (λ b. if b then suc (below (suc w) rs) else below (suc w) rs) (lt-ltb r.0 (suc w) l')
+            ∙ (let e : suc (below (suc w) rs) ≡ suc (below w rs) + digit (is_pivot w rs) = omega (arith, rest) in e)
+            ∙ (λ i. (if sym (lt-ltb r.0 w l) i then suc (below w rs) else below w rs) + digit (sym (eq-other w r.0 n) i || is_pivot w rs))
+        | inr (inl e) ↦
+            let l' : r.0 < suc w = omega (arith, e) in
+            let g : w ≤ r.0 = omega (arith, e) in
+            let own : nat_eq w r.0 ≡ true = ap (nat_eq w) e ∙ eq-self w in
+            let none : is_pivot w rs ≡ false = ap (λ z. is_pivot z rs) (sym e) ∙ past-none r.0 rs a.1 in
+            ap (λ b. if b then suc (below (suc w) rs) else below (suc w) rs) (lt-ltb r.0 (suc w) l')
+            ∙ ap suc (rest ∙ ap (λ b. below w rs + digit b) none)
+            ∙ (let e' : suc (below w rs + 0) ≡ below w rs + 1 = omega arith in e')
+            ∙ (λ i. (if sym (le-ltb r.0 w g) i then suc (below w rs) else below w rs) + digit (sym own i || is_pivot w rs))
+        | inr (inr l) ↦
+            let n : w ≡ r.0 → ⊥ = λ e. absurd (omega (arith, e, l)) in
+            let g' : suc w ≤ r.0 = omega (arith, l) in
+            let g : w ≤ r.0 = omega (arith, l) in
+            ap (λ b. if b then suc (below (suc w) rs) else below (suc w) rs) (le-ltb r.0 (suc w) g')
+            ∙ rest
+            ∙ (λ i. (if sym (le-ltb r.0 w g) i then suc (below w rs) else below w rs) + digit (sym (eq-other w r.0 n) i || is_pivot w rs))
+      ]
+
+  none-below : (rs : List (ℕ × V)) → below 0 rs ≡ 0
+  none-below [] = refl
+  none-below (r ∷ rs) = ap (λ b. if b then suc (below 0 rs) else below 0 rs) (le-ltb r.0 0 (omega arith)) ∙ none-below rs
+
+  all-below : (w : ℕ) (rs : List (ℕ × V)) → AreRising w rs → below w rs ≡ length rs
+  all-below w [] a = refl
+  all-below w (r ∷ rs) a = ap (λ b. if b then suc (below w rs) else below w rs) (lt-ltb r.0 w a.0) ∙ ap suc (all-below w rs a.2)
+
+  columns-count : (w v : ℕ) (rs : List (ℕ × V)) → AreRising v rs → length (free_columns w rs) + below w rs ≡ w
+  columns-count zero v rs a = let e : below 0 rs ≡ 0 = none-below rs in omega (arith, e)
+  columns-count (suc w) v rs a =
+      let rest : length (free_columns w rs) + below w rs ≡ w = columns-count w v rs a in
+      let step : below (suc w) rs ≡ below w rs + digit (is_pivot w rs) = below-step w v rs a in
+      (elim (is_pivot w rs) as (λ b. (below (suc w) rs ≡ below w rs + digit b) → length (if b then free_columns w rs else free_columns w rs ++ w ∷ []) + below (suc w) rs ≡ suc w) [
+        | true ↦ λ h. omega (arith, rest, h)
+        | false ↦ λ h. let e : length (free_columns w rs ++ w ∷ []) ≡ length (free_columns w rs) + 1 = length-last (free_columns w rs) w in omega (arith, rest, h, e)
+      ]) step
+
+  -- a form has as many free columns as columns less rows
+  pub free-count : (w : ℕ) (rs : List (ℕ × V)) → AreRising w rs → length (free_columns w rs) + length rs ≡ w
+  free-count w rs a = ap (λ n. length (free_columns w rs) + n) (sym (all-below w rs a)) ∙ columns-count w w rs a

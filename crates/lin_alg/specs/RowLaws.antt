@@ -11,7 +11,8 @@ use Rattle.std.specs.Cmp.{Equal-is}
 use Rattle.std.proofs.lemmas.Cmp.{tied_itself}
 use Rattle.cyclo24.specs.ExactField.{ExactField, Value}
 use Rattle.lin_alg.specs.Spans.{HasRows}
-use Rattle.lin_alg.specs.Reduced.{IsReduced, IsForm, IsWithin, PivotsBelow, is_pivot}
+use Rattle.lin_alg.specs.Reduced.{IsReduced, IsForm, IsWithin, PivotsBelow, ArePast, is_pivot}
+use Rattle.lin_alg.specs.FreeLaws.{AllPast, AreRising}
 use Rattle.lin_alg.specs.Rows.{vector, exact_rows, HaveWidth}
 
 module _ {A : Type 0} (f : ExactField) (value : A → Value f) where
@@ -42,3 +43,12 @@ equality-told f value E R ties tells x y = (
   λ h. f.cmp-Equal (value x) (value y) (sym (tells x y) ∙ (Equal-is (R x y)).0 (sym (ties x y) ∙ h)),
   λ h. ties x y ∙ ap is_eq (tells x y ∙ ap (f.cmp (value x)) (sym h) ∙ tied_itself f.cmp_total (value x)),
 )
+
+-- the pivots of a form rise
+reduced-past : {A : Type 0} (f : ExactField) (value : A → Value f) (p : ℕ) (rs : List (ℕ × List A)) → ArePast f.laws p (exact_rows f value rs) → AllPast p rs
+reduced-past f value p [] a = tt
+reduced-past f value p (r ∷ rs) a = (a.0, reduced-past f value p rs a.2)
+
+pub reduced-rising : {A : Type 0} (f : ExactField) (value : A → Value f) (w : ℕ) (rs : List (ℕ × List A)) → HaveWidth w rs → IsReduced f.laws (exact_rows f value rs) → AreRising w rs
+reduced-rising f value w [] a r = tt
+reduced-rising f value w (x ∷ rs) a r = (a.0, reduced-past f value x.0 rs r.1, reduced-rising f value w rs a.2 r.2)

@@ -1,5 +1,5 @@
 // The free basis of a form.
-ghost use Rattle.std.specs.Prelude.{◌≡◌, ◌<◌, ◌≤◌, ◌*◌, ◌^◌, ℕ, IfOk, length, map, true, false};
+ghost use Rattle.std.specs.Prelude.{◌≡◌, ◌<◌, ◌≤◌, ◌+◌, ◌-◌, ◌*◌, ◌^◌, ℕ, IfOk, length, map, true, false};
 ghost use Rattle.std.specs.List.{slice_index};
 ghost use Rattle.lin_alg.specs.Reduced.{IsReduced, is_pivot, free_columns as columns_of};
 ghost use Rattle.lin_alg.specs.Rows.{vector, exact_rows, HaveWidth};
@@ -19,8 +19,9 @@ impl<F: Field> Echelon<F> {
     /// by rising column, 1 there and 0 at the other such columns.
     pub fn free_basis(&self, alloc: Global) -> Result<Matrix<F>, NoMemory>
         requires whole { self.now.whole ≡ true }
-        requires small { length (columns_of self.now.width self.now.rows) * self.now.width < 2 ^ 32 }
+        requires small { (self.now.width - length self.now.rows) * self.now.width < 2 ^ 32 }
         ensures rows { IfOk result (λ m. m.rows ≡ length (columns_of self.now.width self.now.rows)) }
+        ensures count { IfOk result (λ m. m.rows + length self.now.rows ≡ self.now.width) }
         ensures cols { IfOk result (λ m. m.cols ≡ self.now.width) }
         ensures vectors { IfOk result (λ m. (i : ℕ) → i < m.rows → (j : ℕ) → entry_of F.field F.value m i j ≡ free_vector F.field.laws (exact_rows F.field F.value self.now.rows) (slice_index (columns_of self.now.width self.now.rows) i) j) }
         ensures units { IfOk result (λ m. (i k : ℕ) → i < m.rows → k < m.rows → entry_of F.field F.value m i (slice_index (columns_of self.now.width self.now.rows) k) ≡ unit_vector F.field.laws (slice_index (columns_of self.now.width self.now.rows) i) (slice_index (columns_of self.now.width self.now.rows) k)) }
