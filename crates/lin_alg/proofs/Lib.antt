@@ -1,0 +1,12 @@
+mod MemoryLemmas
+mod VectorLemmas
+mod RowLemmas
+mod WriteLemmas
+mod PlaceLemmas
+mod ClearLemmas
+mod PutLemmas
+mod HeldLemmas
+mod MatrixLemmas
+mod SolvingLemmas
+mod FreeLemmas
+mod HashLemmas

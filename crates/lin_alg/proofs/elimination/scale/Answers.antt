@@ -1,0 +1,41 @@
+use Rattle.std.proofs.Common.{◌≡◌, ◌<◌, ◌≤◌, ℕ, length, refl, sym, ◌∙◌, ap, arith, true}
+use Rattle.lin_alg.specs.Reduced.{scaled}
+use Rattle.lin_alg.specs.Rows.{vector}
+use Rattle.lin_alg.specs.FieldLaws.{times-nought}
+use Rattle.lin_alg.proofs.VectorLemmas.{vector-past}
+use Rattle.lin_alg.proofs.WriteLemmas.{IsWritten, written-start, written-set, written-kept, written-all}
+use Rattle.lin_alg.proofs.elimination.scale.Goals as goal
+use Rattle.lin_alg.proofs.elimination.scale.Goals.{then-not-is_zero+in_ok-row, else-not-is_zero}
+
+pub loop-j-preserved : goal.loop-j-preserved
+loop-j-preserved g c =
+    let f = g.F.Field.field in
+    let v = g.F.Field.value in
+    let start = vector f v c.args.row.now in
+    let target = scaled f.laws c.args.p start in
+    let row = c.loop-j.row in
+    let j = c.loop-j.j in
+    let t : IsWritten f v target start row j = c.loop-j.invariant in
+    let kept = t.ahead j (omega arith) in
+    let l : j < length row = omega arith in
+    elim c.if-not-is_zero.branch [
+      | then-not-is_zero+in_ok-row w ↦
+          let e : v w.in_ok-row.field-0 ≡ target j = cc (w.in_ok-row.ensures.exact, c.in_ok-u.ensures.exact, c.entry.ensures, c.entry-x.ensures, kept) in
+          rw w.row-is (written-set f v target start row j w.in_ok-row.field-0 l e t)
+      | else-not-is_zero w ↦
+          let z : f.laws.is_nought (start j) ≡ true = cc (c.entry-x.ensures, kept, c.is_zero.ensures, w.if-not-is_zero.false) in
+          let n = f.laws.is_nought-true (start j) z in
+          let e : start j ≡ target j = n ∙ sym (ap (f.laws.times (f.laws.inverse (start c.args.p))) n ∙ times-nought f.laws (f.laws.inverse (start c.args.p))) in
+          rw w.row-is (written-kept f v target start row j e t)
+    ]
+
+pub returns-clause-exact : goal.returns-clause-exact
+returns-clause-exact g c =
+    let f = g.F.Field.field in
+    let v = g.F.Field.value in
+    let start = vector f v c.args.row.now in
+    let l : length c.loop-j.row ≤ c.loop-j.j = omega arith in
+    written-all f v (scaled f.laws c.args.p start) start c.loop-j.row c.loop-j.j l
+    (λ k h. let h' : length c.args.row.now ≤ k = omega arith in
+    ap (f.laws.times (f.laws.inverse (start c.args.p))) (vector-past f v c.args.row.now k h') ∙ times-nought f.laws (f.laws.inverse (start c.args.p)))
+    c.loop-j.invariant

@@ -1,0 +1,69 @@
+-- What actions obey.
+--
+-- image-plus, image-same, image-product, image-identity: images of vectors
+-- fixed-plus, fixed-product: what is fixed
+-- fixed-generated: what the generators fix, each element fixes
+use Rattle.std.proofs.Common.{◌≡◌, ℕ, ◌<◌, refl, sym, ◌∙◌, ap, subst, List, [], ◌∷◌, if◌then◌else◌}
+use Rattle.std.specs.Cmp.{nat_eq_equiv}
+use Rattle.cyclo24.specs.ExactField.{ExactField, Value}
+use Rattle.lin_alg.specs.Action.{Action, AllBelow, IsAction, IsFixed, entry_of, image, word}
+use Rattle.lin_alg.specs.EquationLaws.{dot-unit}
+use Rattle.lin_alg.specs.Equations.{unit_vector}
+use Rattle.lin_alg.specs.Matrices.{unit_entry}
+use Rattle.lin_alg.specs.Rows.{vector}
+use Rattle.lin_alg.specs.Sums.{total}
+use Rattle.lin_alg.specs.TotalLaws.{times-total, total-plus, total-same, total-swap, total-times}
+
+module _ (f : ExactField) (act : Action) where
+  pub image-plus : (q : ℕ) (v w : ℕ → Value f) (i : ℕ) → image f act q (λ j. f.laws.plus (v j) (w j)) i ≡ f.laws.plus (image f act q v i) (image f act q w i)
+  image-plus q v w i =
+      total-same f.laws act.dim _ _ (λ k l. f.laws.times-plus (entry_of f act q i k) (v k) (w k))
+      ∙ total-plus f.laws act.dim (λ k. f.laws.times (entry_of f act q i k) (v k)) (λ k. f.laws.times (entry_of f act q i k) (w k))
+
+  pub fixed-plus : (q : ℕ) (v w : ℕ → Value f) → IsFixed f act q v → IsFixed f act q w → IsFixed f act q (λ j. f.laws.plus (v j) (w j))
+  fixed-plus q v w h k i l = image-plus q v w i ∙ ap (λ x. f.laws.plus x (image f act q w i)) (h i l) ∙ ap (f.laws.plus (v i)) (k i l)
+
+  pub image-same : (q : ℕ) (v w : ℕ → Value f) → ((j : ℕ) → j < act.dim → v j ≡ w j) → (i : ℕ) → image f act q v i ≡ image f act q w i
+  image-same q v w e i = total-same f.laws act.dim _ _ (λ k l. ap (f.laws.times (entry_of f act q i k)) (e k l))
+
+  -- the matrix of a product is the product of the matrices
+  pub image-product : IsAction f act → (a b : ℕ) → a < act.group.order → b < act.group.order → (v : ℕ → Value f) (i : ℕ) → i < act.dim →
+      image f act (act.group.product a b) v i ≡ image f act a (image f act b v) i
+  image-product law a b la lb v i li =
+      let x : ℕ → ℕ → Value f = λ k j. f.laws.times (f.laws.times (entry_of f act a i k) (entry_of f act b k j)) (v j) in
+      total-same f.laws act.dim _ (λ j. total f.laws act.dim (λ k. x k j))
+      (λ j l. ap (λ y. f.laws.times y (v j)) (law.multiplies a b la lb i j li l)
+      ∙ sym (times-total f.laws act.dim (v j) (λ k. f.laws.times (entry_of f act a i k) (entry_of f act b k j))))
+      ∙ total-swap f.laws act.dim act.dim (λ j k. x k j)
+      ∙ total-same f.laws act.dim _ _ (λ k l.
+      total-same f.laws act.dim _ _ (λ j m. f.laws.times_assoc (entry_of f act a i k) (entry_of f act b k j) (v j))
+      ∙ total-times f.laws act.dim (entry_of f act a i k) (λ j. f.laws.times (entry_of f act b k j) (v j)))
+
+  pub fixed-product : IsAction f act → (a b : ℕ) → a < act.group.order → b < act.group.order → (v : ℕ → Value f) →
+      IsFixed f act a v → IsFixed f act b v → IsFixed f act (act.group.product a b) v
+  fixed-product law a b la lb v h k i l = image-product law a b la lb v i l ∙ image-same a (image f act b v) v k i ∙ h i l
+
+  -- element 0 fixes each vector
+  pub image-identity : IsAction f act → (v : ℕ → Value f) (i : ℕ) → i < act.dim → image f act 0 v i ≡ v i
+  image-identity law v i l =
+      total-same f.laws act.dim _ _ (λ j m. ap (λ x. f.laws.times x (v j)) (law.identity i j l m) ∙ f.laws.times_comm (unit_entry f.laws i j) (v j) ∙ ap (f.laws.times (v j)) (turned i j))
+      ∙ dot-unit f.laws act.dim v i l
+    where
+      turned : (i j : ℕ) → unit_entry f.laws i j ≡ unit_vector f.laws i j
+      turned i j = ap (λ b. if b then f.laws.unit else f.laws.nought) (nat_eq_equiv.symm i j)
+
+  word-below : IsAction f act → (is : List ℕ) → AllBelow act.generators is → word act.group.product act.generator is < act.group.order
+  word-below law [] a = law.group.identity_below
+  word-below law (i ∷ is) a = law.group.product_below (act.generator i) (word act.group.product act.generator is) (law.generator_below i a.0) (word-below law is a.1)
+
+  fixed-word : IsAction f act → (v : ℕ → Value f) → ((i : ℕ) → i < act.generators → IsFixed f act (act.generator i) v) → (is : List ℕ) → AllBelow act.generators is →
+      IsFixed f act (word act.group.product act.generator is) v
+  fixed-word law v h [] a = image-identity law v
+  fixed-word law v h (i ∷ is) a =
+      fixed-product law (act.generator i) (word act.group.product act.generator is) (law.generator_below i a.0) (word-below law is a.1) v (h i a.0) (fixed-word law v h is a.1)
+
+  -- what the generators fix, each element fixes
+  pub fixed-generated : IsAction f act → (v : ℕ → Value f) → ((i : ℕ) → i < act.generators → IsFixed f act (act.generator i) v) → (q : ℕ) → q < act.group.order → IsFixed f act q v
+  fixed-generated law v h q l =
+      let w = law.generated q l in
+      subst (λ (z : ℕ). IsFixed f act z v) (sym w.2) (fixed-word law v h w.0 w.1)

@@ -1,0 +1,44 @@
+-- Fixed vectors and stabilisers, for any relation between elements and vectors, and for actions.
+--
+-- IsFixedByAll R h v: each element of the list leaves v as it is
+-- FixesAll R U q: q leaves each vector of U as it is
+-- Fix f act h: the vectors that each element of h fixes
+-- mover f act q i: row i of A(q) - 1; movers: the first rows
+-- IsFixForm f act h rows: the rows are the equations of Fix(h)
+use Rattle.std.specs.Prelude.{◌≡◌, ℕ, suc, zero, List, [], ◌∷◌, ◌⊎◌, if◌then◌else◌, ltb}
+use Rattle.cyclo24.specs.ExactField.{ExactField, Value}
+use Rattle.lin_alg.specs.Matrices.{unit_entry}
+use Rattle.lin_alg.specs.Action.{Action, IsFixed, entry_of}
+use Rattle.lin_alg.specs.Equations.{IsEquationsOf}
+
+-- x is one of the list
+abbrev pub IsIn : {X : Type 0} → X → List X → Type 0
+IsIn x [] = ⊥
+IsIn x (y ∷ ys) = (x ≡ y) ⊎ IsIn x ys
+
+module _ {E V : Type 0} (R : E → V → Type 0) where
+  -- each member of h leaves v as it is
+  abbrev pub IsFixedByAll : List E → V → Type 0
+  IsFixedByAll [] v = Unit {0}
+  IsFixedByAll (q ∷ h) v = R q v × IsFixedByAll h v
+
+  -- q leaves each vector of U as it is
+  abbrev pub FixesAll : (V → Type 0) → E → Type 0
+  FixesAll U q = (v : V) → U v → R q v
+
+-- Fix(h)
+abbrev pub Fix : (f : ExactField) → Action → List ℕ → (ℕ → Value f) → Type 0
+Fix f act = IsFixedByAll (IsFixed f act)
+
+-- row i of A(q) - 1, 0 past the dimension
+abbrev pub mover : (f : ExactField) → Action → ℕ → ℕ → ℕ → Value f
+mover f act q i j = if ltb j act.dim then f.laws.plus (entry_of f act q i j) (f.laws.neg (unit_entry f.laws i j)) else f.laws.nought
+
+-- the first n rows of A(q) - 1
+abbrev pub movers : (f : ExactField) → Action → ℕ → ℕ → List (ℕ × (ℕ → Value f))
+movers f act q zero = []
+movers f act q (suc n) = (0, mover f act q n) ∷ movers f act q n
+
+-- the equations of Fix(h)
+abbrev pub IsFixForm : (f : ExactField) → Action → List ℕ → List (ℕ × (ℕ → Value f)) → Type 0
+IsFixForm f act h rs = IsEquationsOf f.laws act.dim (Fix f act h) rs

@@ -1,0 +1,26 @@
+-- Rows as programs hold them, and the exact rows that they stand for.
+--
+-- vector f value xs: the exact values of the list, 0 behind its end
+-- exact_rows f value rows: the exact rows, each with its pivot
+-- HaveWidth w rows: each row is w entries long, its pivot below w
+use Rattle.std.specs.Prelude.{◌≡◌, ℕ, ◌<◌, List, [], ◌∷◌, length, map, get_or}
+use Rattle.cyclo24.specs.ExactField.{ExactField, Value}
+
+-- the exact values of a row, 0 behind its end
+abbrev pub vector : {A : Type 0} (f : ExactField) → (A → Value f) → List A → ℕ → Value f
+vector f value xs = λ j. get_or (map value xs) j f.laws.nought
+
+-- the rows with their pivots as exact values
+abbrev pub exact_rows : {A : Type 0} (f : ExactField) → (A → Value f) → List (ℕ × List A) → List (ℕ × (ℕ → Value f))
+exact_rows f value [] = []
+exact_rows f value (r ∷ rs) = (r.0, vector f value r.1) ∷ exact_rows f value rs
+
+-- each row has this width, and its pivot is a column of it
+abbrev pub HaveWidth : {A : Type 0} → ℕ → List (ℕ × List A) → Type 0
+HaveWidth w [] = Unit {0}
+HaveWidth w (r ∷ rs) = (r.0 < w) × (length r.1 ≡ w) × HaveWidth w rs
+
+-- each list has this length
+abbrev pub HaveLength : {A : Type 0} → ℕ → List (List A) → Type 0
+HaveLength w [] = Unit {0}
+HaveLength w (x ∷ xs) = (length x ≡ w) × HaveLength w xs

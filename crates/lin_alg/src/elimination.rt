@@ -1,0 +1,163 @@
+// The written steps of an insertion over the stored rows: pairs of a pivot and the row's entries.
+ghost use Rattle.std.specs.Prelude.{◌≡◌, ◌<◌, ◌≤◌, ◌+◌, ◌++◌, ◌∷◌, ℕ, List, MatchOption, OnOk, OnErr, IfOk, vec_len, vec_capacity, length, map, take, drop, false};
+ghost use Rattle.std.specs.List.{insert};
+ghost use Rattle.lin_alg.specs.Spans.{less};
+ghost use Rattle.lin_alg.specs.Reduced.{reduce, scaled, cleared, placed};
+ghost use Rattle.lin_alg.specs.Rows.{vector, exact_rows, HaveWidth, HaveLength};
+ghost use Rattle.lin_alg.specs.Insertion.{IsLastColumn, IsWideLess, IsWideReduce, IsWideScale, IsWideClear, IsWideInsert, IsInserted};
+ghost use Rattle.lin_alg.specs.declared.echelon.Grew.TheVariants as grew;
+
+use crate::Grew;
+use cyclo24::{Field, Wide};
+
+// Takes c times b from the row.
+pub(crate) fn take_multiple<F: Field>(row: &mut [F], c: F, b: &[F]) -> Result<(), Wide>
+    requires { length row.old ≡ length b.now }
+    ensures exact { OnOk result (vector F.field F.value row.new ≡ less F.field.laws (vector F.field F.value row.old) (F.value c) (vector F.field F.value b.now)) }
+    ensures wide { OnErr result (IsWideLess F.field (vector F.field F.value row.old) (F.value c) (vector F.field F.value b.now)) }
+{
+    for j in 0..b.len() {
+        if !b[j].is_zero() {
+            let product = c.mul(b[j])?;
+            row[j] = row[j].sub(product)?;
+        }
+    }
+    Ok(())
+}
+
+// The entry at a column.
+pub(crate) fn entry<F: Field>(row: &[F], p: usize) -> F
+    requires { p < length row.now }
+    ensures { F.value result ≡ vector F.field F.value row.now p }
+{
+    row[p]
+}
+
+// Step 1: takes the row to 0 in each pivot column.
+pub(crate) fn reduce_row<F: Field>(lines: &[(usize, Vec<F>)], row: &mut [F]) -> Result<(), Wide>
+    requires { HaveWidth (length row.old) (map (λ r. (r.0, r.1.items)) lines.now) }
+    ensures exact { OnOk result (vector F.field F.value row.new ≡ reduce F.field.laws (exact_rows F.field F.value (map (λ r. (r.0, r.1.items)) lines.now)) (vector F.field F.value row.old)) }
+    ensures wide { OnErr result (IsWideReduce F.field (exact_rows F.field F.value (map (λ r. (r.0, r.1.items)) lines.now)) (vector F.field F.value row.old)) }
+{
+    for line in lines {
+        let c = entry(row, line.0);
+        if !c.is_zero() {
+            take_multiple(row, c, &line.1)?;
+        }
+    }
+    Ok(())
+}
+
+// The last column where the row isn't 0.
+pub(crate) fn last_column<F: Field>(row: &[F]) -> Option<usize>
+    ensures { MatchOption result ((j : ℕ) → vector F.field F.value row.now j ≡ F.field.laws.nought) (λ p. (p < length row.now) × IsLastColumn F.field (vector F.field F.value row.now) p) }
+{
+    for i in (0..row.len()).rev() {
+        if !entry(row, i).is_zero() {
+            return Some(i);
+        }
+    }
+    None
+}
+
+// Step 3: the row divided by its entry at p.
+fn scale<F: Field>(row: &mut [F], p: usize) -> Result<(), Wide>
+    requires place { p < length row.old }
+    requires other { F.field.laws.is_nought (vector F.field F.value row.old p) ≡ false }
+    ensures exact { OnOk result (vector F.field F.value row.new ≡ scaled F.field.laws p (vector F.field F.value row.old)) }
+    ensures wide { OnErr result (IsWideScale F.field p (vector F.field F.value row.old)) }
+{
+    let u = entry(row, p).inv()?;
+    for j in 0..row.len() {
+        let x = entry(row, j);
+        if !x.is_zero() {
+            row[j] = u.mul(x)?;
+        }
+    }
+    Ok(())
+}
+
+// How many rows have a pivot at most p before the first past it.
+fn place_of<F: Field>(lines: &[(usize, Vec<F>)], p: usize) -> usize
+    ensures { (at : result ≤ length lines.now) × ((u : List F) → placed p (vector F.field F.value u) (exact_rows F.field F.value (map (λ r. (r.0, r.1.items)) lines.now)) ≡ exact_rows F.field F.value (take result (map (λ r. (r.0, r.1.items)) lines.now) ++ (p, u) ∷ drop result (map (λ r. (r.0, r.1.items)) lines.now))) }
+{
+    for (i, line) in lines.iter().enumerate() {
+        if p < line.0 {
+            return i;
+        }
+    }
+    lines.len()
+}
+
+// Step 4: the stored rows less the multiples of the row that make them 0 at p.
+fn clear_lines<F: Field>(lines: &mut [(usize, Vec<F>)], p: usize, row: &[F]) -> Result<(), Wide>
+    requires shape { HaveWidth (length row.now) (map (λ r. (r.0, r.1.items)) lines.old) }
+    requires place { p < length row.now }
+    ensures shape { HaveWidth (length row.now) (map (λ r. (r.0, r.1.items)) lines.new) }
+    ensures exact { OnOk result (exact_rows F.field F.value (map (λ r. (r.0, r.1.items)) lines.new) ≡ cleared F.field.laws p (vector F.field F.value row.now) (exact_rows F.field F.value (map (λ r. (r.0, r.1.items)) lines.old))) }
+    ensures wide { OnErr result (IsWideClear F.field p (vector F.field F.value row.now) (exact_rows F.field F.value (map (λ r. (r.0, r.1.items)) lines.old))) }
+{
+    for i in 0..lines.len() {
+        let line = &mut lines[i];
+        let c = entry(&line.1, p);
+        if !c.is_zero() {
+            take_multiple(&mut line.1, c, row)?;
+        }
+    }
+    Ok(())
+}
+
+// Step 5: puts the row at its place. A spare row takes its entries, so nothing is allocated.
+fn put_line<F: Field>(
+    lines: &mut Vec<(usize, Vec<F>)>,
+    spare: &mut Vec<Vec<F>>,
+    at: usize,
+    p: usize,
+    row: &[F],
+)
+    requires room { vec_len lines.old + vec_len spare.old ≤ vec_capacity lines.old }
+    requires some { 0 < vec_len spare.old }
+    requires long { HaveLength (length row.now) (map (λ r. r.items) spare.old.items) }
+    requires place { at ≤ vec_len lines.old }
+    ensures room { vec_len lines.new + vec_len spare.new ≤ vec_capacity lines.new }
+    ensures less { vec_len spare.new + 1 ≡ vec_len spare.old }
+    ensures long { HaveLength (length row.now) (map (λ r. r.items) spare.new.items) }
+    ensures put { map {B = ℕ × List F} (λ r. (r.0, r.1.items)) lines.new.items ≡ insert (map {B = ℕ × List F} (λ r. (r.0, r.1.items)) lines.old.items) at (p, row.now) }
+{
+    if let Some(mut fresh) = spare.pop() {
+        fresh.copy_from_slice(row);
+        let _ = lines.insert(at, (p, fresh));
+    }
+}
+
+// Insertion into rows with room for one more. It answers whether the row was new.
+pub(crate) fn insert_row<F: Field>(
+    lines: &mut Vec<(usize, Vec<F>)>,
+    spare: &mut Vec<Vec<F>>,
+    row: &mut [F],
+) -> Result<Grew, Wide>
+    requires room { vec_len lines.old + vec_len spare.old ≤ vec_capacity lines.old }
+    requires some { 0 < vec_len spare.old }
+    requires long { HaveLength (length row.old) (map (λ r. r.items) spare.old.items) }
+    requires shape { HaveWidth (length row.old) (map (λ r. (r.0, r.1.items)) lines.old.items) }
+    ensures room { vec_len lines.new + vec_len spare.new ≤ vec_capacity lines.new }
+    ensures less { IfOk result (λ g. (g ≡ grew.No) → vec_len spare.new ≡ vec_len spare.old) }
+    ensures one { vec_len spare.old ≤ vec_len spare.new + 1 }
+    ensures kept { OnErr result (vec_len spare.new ≡ vec_len spare.old) }
+    ensures long { HaveLength (length row.old) (map (λ r. r.items) spare.new.items) }
+    ensures shape { HaveWidth (length row.old) (map (λ r. (r.0, r.1.items)) lines.new.items) }
+    ensures exact { IfOk result (λ g. IsInserted F.field F.value (map (λ r. (r.0, r.1.items)) lines.old.items) (vector F.field F.value row.old) g (map (λ r. (r.0, r.1.items)) lines.new.items)) }
+    ensures wide { OnErr result (IsWideInsert F.field (exact_rows F.field F.value (map (λ r. (r.0, r.1.items)) lines.old.items)) (vector F.field F.value row.old)) }
+{
+    reduce_row(lines, row)?;
+    match last_column(row) {
+        None => Ok(Grew::No),
+        Some(p) => {
+            scale(row, p)?;
+            clear_lines(lines, p, row)?;
+            let at = place_of(lines, p);
+            put_line(lines, spare, at, p, row);
+            Ok(Grew::Yes)
+        }
+    }
+}

@@ -1,0 +1,60 @@
+// Rows in memory.
+ghost use Rattle.std.specs.Prelude.{◌≡◌, ◌≤◌, ℕ, List, IfOk, OnOk, length, map, vec_len};
+ghost use Rattle.lin_alg.specs.Rows.{vector, HaveLength};
+
+use cyclo24::Field;
+use iso_text::NoMemory;
+use std::alloc::Global;
+
+// A row of zeros.
+pub(crate) fn zeros<F: Field>(alloc: Global, len: usize) -> Result<Vec<F>, NoMemory>
+    ensures len { IfOk result (λ v. length v.items ≡ len) }
+    ensures zero { IfOk result (λ v. (j : ℕ) → vector F.field F.value v.items j ≡ F.field.laws.nought) }
+{
+    let mut row = Vec::with_capacity(alloc, len)?;
+    match row.resize(len, F::zero()) {
+        Ok(()) => Ok(row),
+        Err(_) => Err(NoMemory),
+    }
+}
+
+// Adds spare rows until there are as many as asked. Want of memory keeps those that were added.
+pub(crate) fn add_spare<F: Field>(
+    spare: &mut Vec<Vec<F>>,
+    alloc: Global,
+    width: usize,
+    rows: usize,
+) -> Result<(), NoMemory>
+    requires { HaveLength width (map (λ r. r.items) spare.old.items) }
+    ensures long { HaveLength width (map (λ r. r.items) spare.new.items) }
+    ensures enough { OnOk result (rows ≤ vec_len spare.new) }
+    ensures more { vec_len spare.old ≤ vec_len spare.new }
+    ensures few { (n : ℕ) → vec_len spare.old ≤ n → rows ≤ n → vec_len spare.new ≤ n }
+{
+    for _ in spare.len()..rows {
+        let row = zeros(alloc, width)?;
+        match spare.push(row) {
+            Ok(()) => {}
+            Err(_) => return Err(NoMemory),
+        }
+    }
+    Ok(())
+}
+
+// A copy of the stored rows.
+pub(crate) fn copy_lines<F: Field>(
+    alloc: Global,
+    lines: &[(usize, Vec<F>)],
+) -> Result<Vec<(usize, Vec<F>)>, NoMemory>
+    ensures { IfOk result (λ v. map {B = ℕ × List F} (λ r. (r.0, r.1.items)) v.items ≡ map (λ r. (r.0, r.1.items)) lines.now) }
+{
+    let mut copies = Vec::with_capacity(alloc, lines.len())?;
+    for line in lines {
+        let row = Vec::from_slice(alloc, &line.1)?;
+        match copies.push((line.0, row)) {
+            Ok(()) => {}
+            Err(_) => return Err(NoMemory),
+        }
+    }
+    Ok(copies)
+}
