@@ -54,3 +54,8 @@ passed_product_within a x r f g k e h l =
     let b : unsigned_abs (a *ℤ x) ≤ 18000000 = abs_of_within 18000000 (a *ℤ x) w in
     let p : passed_long r *ℤ passed_long x ≡ a *ℤ x = (λ i. (to_z-of_z w32 r k ∙ e ∙ to_z-of_z w8 a f) i *ℤ to_z-of_z w32 x g i) in
     subst (IsWithin 18000000) (sym (ap passed_long p ∙ to_z-of_z w32 (a *ℤ x) (fits_signed_from_abs w32 (a *ℤ x) (omega arith)))) w
+
+-- the square of 1 and of -1
+pub unit_square : (d : ℤ) → unsigned_abs d ≡ 1 → d *ℤ d ≡ pos 1
+unit_square (pos k) e = ap (λ n. pos n *ℤ pos n) e
+unit_square (negsuc k) e = let z : k ≡ 0 = omega (arith, e) in ap (λ n. negsuc n *ℤ negsuc n) z

@@ -1,22 +1,19 @@
 -- What a list that is closed under the steps holds of all words.
-use Rattle.std.proofs.Common.{◌≡◌, refl, sym, ap, ◌∙◌, subst, ℕ, zero, suc, ◌+◌, ◌<◌, ◌≤◌, ◌⊎◌, inl, inr, Bool, true, false, ℤ, List, [], ◌∷◌, length, arith}
-use Rattle.std.proofs.lemmas.Int.{ints}
+use Rattle.std.proofs.Common.{◌≡◌, refl, sym, ap, ◌∙◌, subst, ℕ, ◌<◌, inl, inr, Bool, true, false, ℤ, List, [], ◌∷◌, length}
 use Rattle.space_ops.specs.declared.op.Op.{Op}
 use Rattle.space_ops.specs.declared.lattice.Lattice.{Lattice}
 use Rattle.space_ops.specs.declared.group.GroupError.{GroupError}
 use Rattle.space_ops.specs.declared.group.GroupError.TheVariants.{TooManyRotations, ExtraTranslation, NoMemory}
 use Rattle.space_ops.specs.Whole.{whole}
 use Rattle.space_ops.specs.WholeLaws.{whole_ring}
-use Rattle.space_ops.specs.Matrix.{Matrix, Vector, matrix_times, image_under, vector_sum}
-use Rattle.space_ops.specs.MatrixLaws.{same_vector, matrix_times-unit}
-use Rattle.space_ops.specs.Seitz.{Seitz, seitz_product, seitz_inverse, seitz_identity}
-use Rattle.space_ops.specs.Op.{IsSmallMatrix}
+use Rattle.space_ops.specs.Matrix.{matrix_times}
+use Rattle.space_ops.specs.MatrixLaws.{matrix_times-unit}
+use Rattle.space_ops.specs.Seitz.{Seitz, seitz_product, seitz_identity}
 use Rattle.space_ops.specs.OpLaws.{seitz_product-assoc, seitz_product-identity, identity-seitz_product}
-use Rattle.space_ops.specs.Words.{op_at, vector_difference, IsLatticeVector, IsSameUpToLattice, IsStep, AreSteps, word_value, IsWord, HasTooManyRotations, HasExtraTranslation}
-use Rattle.space_ops.specs.LatticeLaws.{sum-lattice, differ-trans, differ-refl}
+use Rattle.space_ops.specs.Words.{op_at, IsSameUpToLattice, IsStep, AreSteps, word_value, IsWord, HasTooManyRotations, HasExtraTranslation}
 use Rattle.space_ops.specs.WordLaws.{AreUnimodular, same-refl, same-trans, same-right, same-left, same-translation, word-over_words, extra-from_image}
 use Rattle.space_ops.specs.Group.{IsListed, IsCauseOf}
-use Rattle.space_ops.specs.Closing.{AreStepOps, AreHeld, IsMet, IsClosing, KeepsLattice, LosesLattice, IsClosedList}
+use Rattle.space_ops.specs.Closing.{AreStepOps, IsClosing, KeepsLattice, LosesLattice, IsClosedList}
 use Rattle.space_ops.specs.GroupLaws.{HasRotation, no_more_rotations}
 
 -- too many rotations of words over the steps

@@ -1,19 +1,18 @@
 -- Steps of the closing loop.
-use Rattle.std.proofs.Common.{◌≡◌, refl, sym, ap, ◌∙◌, subst, ℕ, zero, suc, ◌+◌, ◌<◌, ◌≤◌, ◌⊎◌, inl, inr, Bool, true, false, ℤ, pos, List, [], ◌∷◌, ◌++◌, length, get_or, arith, length-append, below_more}
+use Rattle.std.proofs.Common.{◌≡◌, refl, sym, ap, ◌∙◌, subst, ℕ, suc, ◌+◌, ◌<◌, ◌≤◌, ◌⊎◌, inl, inr, Bool, true, false, ℤ, pos, List, [], ◌∷◌, ◌++◌, length, get_or, arith, length-append, below_more}
 use Rattle.std.proofs.lemmas.Int.{ints}
 use Rattle.std.proofs.lemmas.List.{get_or_append_left, get_or_push}
 use Rattle.space_ops.proofs.KeepLemmas.{zero_least}
 use Rattle.space_ops.specs.declared.op.Op.{Op}
 use Rattle.space_ops.specs.declared.lattice.Lattice.{Lattice}
 use Rattle.space_ops.specs.Whole.{whole}
-use Rattle.space_ops.specs.Matrix.{Matrix}
 use Rattle.space_ops.specs.Seitz.{Seitz, seitz_product, seitz_identity}
 use Rattle.space_ops.specs.Op.{seitz_of, identity_op, IsWithin, IsSmallMatrix}
-use Rattle.space_ops.specs.Words.{op_at, vector_difference, IsLatticeVector, IsSameUpToLattice, IsWord, HasTooManyRotations, HasExtraTranslation}
+use Rattle.space_ops.specs.Words.{op_at, vector_difference, IsLatticeVector, IsWord, HasTooManyRotations, HasExtraTranslation}
 use Rattle.space_ops.specs.WordLaws.{AreUnimodular, word-identity, word-step, word-product, word-same, extra-from_difference}
 use Rattle.space_ops.specs.LeastShift.{IsShaped, IsLeastShift, IsLeastOp}
 use Rattle.space_ops.specs.LeastShiftLaws.{least-unique, least-itself}
-use Rattle.space_ops.specs.Closing.{AreHeld, IsMet, IsClosing, IsNew, IsFound, IsAdded, IsHolding, IsPastLimits}
+use Rattle.space_ops.specs.Closing.{AreHeld, IsMet, IsClosing, IsNew, IsFound, IsHolding, IsPastLimits}
 use Rattle.space_ops.specs.LatticeLaws.{differ-sym}
 
 pub op_old : (H : List Op) (x : Op) (i : ℕ) → i < length H → get_or (H ++ x ∷ []) i identity_op ≡ get_or H i identity_op
@@ -140,6 +139,7 @@ module _ (S : List Op) (L : Lattice) where
     where
       from_old : (i s : ℕ) → i < length H → IsMet L (H ++ x ∷ []) c' (seitz_product whole (op_at H i) (op_at S s)) → IsMet L (H ++ x ∷ []) c' (seitz_product whole (op_at (H ++ x ∷ []) i) (op_at S s))
       from_old i s l h = subst (λ (o : Op). IsMet L (H ++ x ∷ []) c' (seitz_product whole (seitz_of o) (op_at S s))) (sym (op_old H x i l)) h
+
       differ : (b : Bool) → b ≡ false → b ≡ true → ⊥
       differ b e f = let h : false ≡ true = sym e ∙ f in cc
 

@@ -1,5 +1,5 @@
 -- A vector is a lattice vector exactly where its least translation is zero.
-use Rattle.std.proofs.Common.{◌≡◌, refl, sym, ap, ◌∙◌, subst, ℕ, zero, suc, ◌<◌, ℤ, pos, negsuc, ◌≤ℤ◌, arith}
+use Rattle.std.proofs.Common.{◌≡◌, refl, sym, ap, ◌∙◌, subst, zero, suc, ℤ, pos, negsuc, ◌≤ℤ◌, arith}
 use Rattle.std.proofs.lemmas.Int.{ints}
 use Rattle.std.specs.Cmp.{int_cmp_is}
 use Rattle.std.specs.Ordering.{int_cmp, ordering_then}
@@ -10,7 +10,7 @@ use Rattle.space_ops.specs.Whole.{whole}
 use Rattle.space_ops.specs.Matrix.{Vector, zero_vector}
 use Rattle.space_ops.specs.MatrixLaws.{same_vector}
 use Rattle.space_ops.specs.Words.{vector_difference, IsLatticeVector}
-use Rattle.space_ops.specs.LeastShift.{vector_cmp, IsInCell, IsLeastShift}
+use Rattle.space_ops.specs.LeastShift.{IsLeastShift}
 use Rattle.space_ops.specs.LeastShiftLaws.{least-unique}
 use Rattle.space_ops.specs.LatticeLaws.{differ-sym, differ-refl}
 

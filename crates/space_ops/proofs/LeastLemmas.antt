@@ -1,5 +1,5 @@
 -- The least of the reduced sums is the least translation.
-use Rattle.std.proofs.Common.{◌≡◌, refl, sym, ap, ◌∙◌, subst, ℕ, zero, suc, ◌<◌, ◌+◌, ◌*◌, ◌-◌, ◌/◌, ◌%◌, ℤ, pos, negsuc, ◌+ℤ◌, ◌*ℤ◌, neg_ℤ, List, [], ◌∷◌, length, get_or, Bool, true, false, cond, arith, below_more}
+use Rattle.std.proofs.Common.{◌≡◌, refl, sym, ap, ◌∙◌, subst, ℕ, suc, ◌<◌, ◌+◌, ◌*◌, ◌/◌, ◌%◌, ℤ, pos, negsuc, ◌+ℤ◌, ◌*ℤ◌, neg_ℤ, List, [], length, get_or, cond, arith, below_more}
 use Rattle.std.proofs.lemmas.Int.{ints}
 use Rattle.std.proofs.lemmas.Cmp.{lists_total, int_cmp_total, tied_itself, alike_right}
 use Rattle.std.specs.Int.{int_rem_euclid}
@@ -14,8 +14,8 @@ use Rattle.space_ops.specs.Matrix.{Vector, vector_sum}
 use Rattle.space_ops.specs.MatrixLaws.{same_vector}
 use Rattle.space_ops.specs.Op.{number_at, vector_of, shift_of}
 use Rattle.space_ops.specs.Lattice.{centrings_of}
-use Rattle.space_ops.specs.Words.{cell_edges, centring_at, vector_difference, IsLatticeVector}
-use Rattle.space_ops.specs.LeastShift.{vector_cmp, IsTwelfth, IsInCell, IsLeastShift, IsFirstOfReduced, IsLeastArray, reduced_sum, earlier_of}
+use Rattle.space_ops.specs.Words.{cell_edges, vector_difference}
+use Rattle.space_ops.specs.LeastShift.{vector_cmp, IsTwelfth, IsInCell, IsFirstOfReduced, IsLeastArray, reduced_sum, earlier_of}
 use Rattle.space_ops.specs.LeastShiftLaws.{reduced-unique}
 
 triples : IsTotalOrder (slice_cmp int_cmp)
@@ -122,5 +122,5 @@ first-least lattice t r h =
       };
       shaped = shaped;
     } where
-  shaped : r ≡ shift_of (vector_of r)
-  shaped = h.is ∙ ap (λ (x : List ℤ). shift_of (vector_of x)) (sym h.is)
+      shaped : r ≡ shift_of (vector_of r)
+      shaped = h.is ∙ ap (λ (x : List ℤ). shift_of (vector_of x)) (sym h.is)

@@ -1,5 +1,5 @@
 -- A closed list in order is the list of its group.
-use Rattle.std.proofs.Common.{◌≡◌, refl, sym, ap, ◌∙◌, subst, ℕ, zero, suc, ◌+◌, ◌<◌, ◌≤◌, ◌⊎◌, inl, inr, Bool, true, false, ℤ, List, [], ◌∷◌, length, get_or, drop, arith}
+use Rattle.std.proofs.Common.{◌≡◌, refl, sym, ap, ◌∙◌, subst, ℕ, zero, suc, ◌<◌, ◌≤◌, ◌⊎◌, inl, inr, true, false, ℤ, List, [], ◌∷◌, length, get_or, arith}
 use Rattle.std.proofs.lemmas.Cmp.{lists_total, on_total, then_total, int_cmp_total}
 use Rattle.std.proofs.lemmas.List.{get_or_default}
 use Rattle.std.proofs.lemmas.List.Edits.{Swapped, swapped_from_swap, length-swap}
@@ -7,7 +7,7 @@ use Rattle.std.proofs.lemmas.List.Elements.{Contains-get_or}
 use Rattle.std.proofs.lemmas.List.Sorted.{ranks_by, IsPermutation-keeps, All-permutation, Contains-permutation, length_permutation, sorted_far}
 use Rattle.std.proofs.lemmas.Map.Lookups.{exact_signed}
 use Rattle.std.specs.Cmp.{IsTotalOrder, IsStrictWeakOrder}
-use Rattle.std.specs.List.{swap, All, Contains}
+use Rattle.std.specs.List.{swap, Contains}
 use Rattle.std.specs.List.Sorted.{IsPermutation, IsSorted}
 use Rattle.std.specs.Ordering.{int_cmp, is_lt, ordering_then, ordering_reverse}
 use Rattle.std.specs.Cmp.Lexicographic.{slice_cmp}
@@ -15,16 +15,14 @@ use Rattle.std.specs.declared.cmp.Ordering.{Ordering}
 use Rattle.std.specs.declared.cmp.Ordering.TheVariants.{Less, Equal, Greater}
 use Rattle.space_ops.specs.declared.op.Op.{Op}
 use Rattle.space_ops.specs.declared.lattice.Lattice.{Lattice}
-use Rattle.space_ops.specs.Whole.{whole}
-use Rattle.space_ops.specs.Matrix.{Matrix}
-use Rattle.space_ops.specs.Seitz.{Seitz, seitz_identity}
+use Rattle.space_ops.specs.Seitz.{Seitz}
 use Rattle.space_ops.specs.Op.{seitz_of, identity_op, matrix_of, rows_of, IsSmallMatrix}
 use Rattle.space_ops.specs.Words.{op_at, vector_difference, IsLatticeVector, IsSameUpToLattice, IsWord}
-use Rattle.space_ops.specs.LeastShift.{IsInCell, IsShaped, IsLeastShift}
+use Rattle.space_ops.specs.LeastShift.{IsShaped, IsLeastShift}
 use Rattle.space_ops.specs.LeastShiftLaws.{lists_exact}
 use Rattle.space_ops.specs.Order.{rows_cmp, op_cmp, IsSortedAfterFirst}
 use Rattle.space_ops.specs.Group.{AreGenerators, matrix_cmp, IsListed, IsListOf, IsParentGroup}
-use Rattle.space_ops.specs.Closing.{AreHeld, IsClosedList}
+use Rattle.space_ops.specs.Closing.{IsClosedList}
 
 rows_cmp-total : IsTotalOrder rows_cmp
 rows_cmp-total = lists_total (lists_total int_cmp_total)
@@ -74,17 +72,17 @@ apart-swap ops a b la lb h i j li lj e =
     let q = from j lj in
     source-injective a b i j p.0 q.0 p.3 q.3 (h p.0 q.0 p.1 q.1 (sym p.2 ∙ e ∙ q.2))
   where
-  from : (k : ℕ) → k < length (swap ops a b) → (m : ℕ) × (m < length ops) × ((op_at (swap ops a b) k).rot ≡ (op_at ops m).rot) × IsSource a b k m
-  from k l =
-      let s : Swapped (λ i. get_or ops i identity_op) (λ i. get_or (swap ops a b) i identity_op) a b = swapped_from_swap ops (swap ops a b) a b identity_op la lb refl in
-      let n : length (swap ops a b) ≡ length ops = length-swap ops a b in
-      elim (place_of k a b) [
-        | inl f ↦ (b, lb, ap (λ i. (op_at (swap ops a b) i).rot) f ∙ ap (λ (o : Op). (seitz_of o).rot) s.0, inl (f, refl))
-        | inr r ↦ elim r [
-          | inl f ↦ (a, la, ap (λ i. (op_at (swap ops a b) i).rot) f ∙ ap (λ (o : Op). (seitz_of o).rot) s.1, inr (inl (f, refl)))
-          | inr f ↦ (k, omega arith, ap (λ (o : Op). (seitz_of o).rot) (s.2 k f.0 f.1), inr (inr (refl, f.0, f.1)))
+    from : (k : ℕ) → k < length (swap ops a b) → (m : ℕ) × (m < length ops) × ((op_at (swap ops a b) k).rot ≡ (op_at ops m).rot) × IsSource a b k m
+    from k l =
+        let s : Swapped (λ i. get_or ops i identity_op) (λ i. get_or (swap ops a b) i identity_op) a b = swapped_from_swap ops (swap ops a b) a b identity_op la lb refl in
+        let n : length (swap ops a b) ≡ length ops = length-swap ops a b in
+        elim (place_of k a b) [
+          | inl f ↦ (b, lb, ap (λ i. (op_at (swap ops a b) i).rot) f ∙ ap (λ (o : Op). (seitz_of o).rot) s.0, inl (f, refl))
+          | inr r ↦ elim r [
+            | inl f ↦ (a, la, ap (λ i. (op_at (swap ops a b) i).rot) f ∙ ap (λ (o : Op). (seitz_of o).rot) s.1, inr (inl (f, refl)))
+            | inr f ↦ (k, omega arith, ap (λ (o : Op). (seitz_of o).rot) (s.2 k f.0 f.1), inr (inr (refl, f.0, f.1)))
+          ]
         ]
-      ]
 
 apart-permutation : (xs ys : List Op) → IsPermutation xs ys → Apart xs → Apart ys
 apart-permutation xs ys p h = IsPermutation-keeps xs Apart h apart-swap ys p

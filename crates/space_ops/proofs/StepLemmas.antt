@@ -1,11 +1,9 @@
 -- The steps of the generators and their inverses.
-use Rattle.std.proofs.Common.{◌≡◌, refl, sym, ap, ◌∙◌, subst, ℕ, zero, suc, ◌+◌, ◌*◌, ◌<◌, ◌≤◌, ◌⊎◌, inl, inr, ℤ, pos, List, [], ◌∷◌, ◌++◌, length, get_or, arith, length-append, below_more}
+use Rattle.std.proofs.Common.{refl, sym, subst, ℕ, ◌+◌, ◌<◌, inl, inr, ℤ, List, [], ◌∷◌, ◌++◌, length, get_or, arith, below_more}
 use Rattle.std.proofs.lemmas.Int.{ints}
-use Rattle.std.proofs.lemmas.List.{get_or_append_left, get_or_push}
 use Rattle.space_ops.specs.declared.op.Op.{Op}
 use Rattle.space_ops.specs.declared.lattice.Lattice.{Lattice}
 use Rattle.space_ops.specs.Whole.{whole}
-use Rattle.space_ops.specs.Matrix.{Matrix, Vector}
 use Rattle.space_ops.specs.Seitz.{Seitz, seitz_inverse}
 use Rattle.space_ops.specs.Op.{seitz_of, vector_of, identity_op, IsSmallMatrix, IsUnimodular, IsWithin, IsShiftWithin}
 use Rattle.space_ops.specs.OpLaws.{inverse_unimodular}
@@ -65,12 +63,16 @@ module _ (G : List Op) (L : Lattice) where
   steps-more n S S' a l h k = subst (AreStepOps G L (n + 1)) (sym k.added) more where
     g : Seitz ℤ
     g = op_at G n
+
     x : Op
     x = k.first
+
     y : Op
     y = k.second
+
     T : List Op
     T = S ++ k.first ∷ []
+
     both : (j : ℕ) → j < length ((S ++ k.first ∷ []) ++ k.second ∷ []) → Fits (get_or ((S ++ k.first ∷ []) ++ k.second ∷ []) j identity_op)
     both j m =
         let c = length_more (S ++ k.first ∷ []) k.second in
@@ -79,6 +81,7 @@ module _ (G : List Op) (L : Lattice) where
         (λ i mi. each-more Fits S k.first (each-fits n S h) (fits (op_at G n) k.first (word-step G L (op_at G n) (inl (n, l, refl))) (a.unimodular n l) (a.small n l) k.is_first) i (omega arith))
         (fits (seitz_inverse whole (op_at G n)) k.second (word-step G L (seitz_inverse whole (op_at G n)) (inr (inl (n, l, refl)))) (inverse_unimodular (op_at G n).rot (a.unimodular n l)) k.small k.is_second)
         j (omega arith)
+
     more : AreStepOps G L (n + 1) ((S ++ k.first ∷ []) ++ k.second ∷ [])
     more = record {
       are_words = λ j m. (both j m).0;

@@ -1,6 +1,7 @@
 -- The parent group of a list of generators and a lattice, as the list of its operations.
 --
 -- AreGenerators gens: at most 5, entries from -3 to 3, determinant 1 or -1, translations from 0 to 11
+-- IsGeneratorOp g: the same of one operation
 -- matrix_cmp a b: rotations in order of their first entries that differ, row by row
 -- IsListed lattice ops g: g is a lattice translation after a listed operation
 -- IsListOf gens lattice ops: the identity, then the others by rising entries, each with its least translation
@@ -21,6 +22,9 @@ use Rattle.space_ops.specs.Op.{identity_op, rows_of, IsSmallMatrix, IsUnimodular
 use Rattle.space_ops.specs.Words.{op_at, IsSameUpToLattice, IsWord, HasTooManyRotations, HasExtraTranslation}
 use Rattle.space_ops.specs.Order.{rows_cmp}
 use Rattle.space_ops.specs.LeastShift.{IsInCell, IsShaped, vector_cmp}
+
+abbrev pub IsGeneratorOp : Seitz ℤ → Type 0
+IsGeneratorOp g = IsSmallMatrix g.rot × IsUnimodular g.rot × IsInCell g.shift
 
 pub record AreGenerators (gens : List Op) : Type 0 where
   pub few : length gens ≤ 5

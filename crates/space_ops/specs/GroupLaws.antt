@@ -8,7 +8,7 @@
 -- parent-keeps: listed rotations take lattice vectors to lattice vectors
 -- place_of ops r, place_of-is, rotation_group ops: the number of a rotation in a list; the group of these numbers
 -- rotation_group-lawful: the numbers of a listed group's rotations are a group
-use Rattle.std.proofs.Common.{◌≡◌, refl, sym, ap, ◌∙◌, subst, ℕ, zero, suc, ◌+◌, ◌<◌, ◌≤◌, ◌⊎◌, inl, inr, Bool, true, false, ℤ, List, [], ◌∷◌, length, get_or, cond, arith}
+use Rattle.std.proofs.Common.{◌≡◌, refl, sym, ap, ◌∙◌, subst, ℕ, zero, suc, ◌<◌, ◌≤◌, inl, inr, Bool, true, false, ℤ, List, [], ◌∷◌, length, cond, arith}
 use Rattle.std.proofs.lemmas.Int.{ints}
 use Rattle.std.proofs.lemmas.Cmp.{lists_total, int_cmp_total, tied_itself}
 use Rattle.std.proofs.lemmas.Map.Lookups.{exact_signed}
@@ -24,13 +24,12 @@ use Rattle.space_ops.specs.WholeLaws.{whole_ring}
 use Rattle.space_ops.specs.Matrix.{Matrix, Vector, matrix_times, image_under, vector_sum, unit_matrix}
 use Rattle.space_ops.specs.MatrixLaws.{same_vector, matrix_times-unit, matrix_times-assoc, unit-matrix_times}
 use Rattle.space_ops.specs.Seitz.{Seitz, seitz_product, seitz_inverse, seitz_identity, inverse_matrix}
-use Rattle.space_ops.specs.Op.{seitz_of, identity_op, matrix_of, rows_of, IsSmallMatrix, IsUnimodular}
+use Rattle.space_ops.specs.Op.{seitz_of, matrix_of, rows_of, IsSmallMatrix, IsUnimodular}
 use Rattle.space_ops.specs.OpLaws.{product_unimodular, inverse_unimodular, back-matrix}
-use Rattle.space_ops.specs.Words.{op_at, vector_difference, IsLatticeVector, IsSameUpToLattice, IsStep, AreSteps, word_value, IsWord, HasTooManyRotations, HasExtraTranslation}
+use Rattle.space_ops.specs.Words.{op_at, vector_difference, IsLatticeVector, AreSteps, word_value, IsWord, HasTooManyRotations, HasExtraTranslation}
 use Rattle.space_ops.specs.WordLaws.{AreUnimodular, translation, word-product, word-inverse, word-lattice, more_less}
 use Rattle.space_ops.specs.LeastShiftLaws.{lists_exact}
-use Rattle.space_ops.specs.Order.{rows_cmp}
-use Rattle.space_ops.specs.Group.{AreGenerators, Parent, IsListed, IsListOf, IsParentGroup, matrix_cmp}
+use Rattle.space_ops.specs.Group.{Parent, IsListed, IsParentGroup, matrix_cmp}
 use Rattle.space_ops.specs.Pigeonhole.{pigeonhole}
 
 -- r is the rotation of a listed operation
@@ -75,8 +74,8 @@ module _ (p : Parent) (h : IsParentGroup p) where
       let e : op_at p.ops a.place ≡ seitz_identity whole = ap (op_at p.ops) k ∙ h.list.identity in
       x.outside (subst (IsLatticeVector p.lattice) (ap (λ (g : Seitz ℤ). vector_difference x.extra.shift g.shift) e ∙ less_nothing x.extra.shift) a.same.translation)
     where
-    less_nothing : (v : Vector ℤ) → vector_difference v (seitz_identity whole).shift ≡ v
-    less_nothing v = same_vector _ _ (omega (arith, ints)) (omega (arith, ints)) (omega (arith, ints))
+      less_nothing : (v : Vector ℤ) → vector_difference v (seitz_identity whole).shift ≡ v
+      less_nothing v = same_vector _ _ (omega (arith, ints)) (omega (arith, ints)) (omega (arith, ints))
 
   pub parent-unimodular : (i : ℕ) → i < length p.ops → IsUnimodular (op_at p.ops i).rot
   parent-unimodular i l = word-unimodular p.generators p.lattice h.generators.unimodular (op_at p.ops i) (h.list.are_words i l)
@@ -151,9 +150,6 @@ place_of-is (op ∷ ops) r k =
     (λ f. let q = place_of-is ops r (later op ops r k f) in let l : place_of ops r < length ops = q.0 in (omega arith, q.1))
 
 module _ (p : Parent) (h : IsParentGroup p) where
-  rot_at : ℕ → Matrix ℤ
-  rot_at i = (op_at p.ops i).rot
-
   -- the rotation of a place, and the place of a rotation
   product_at : (a b : ℕ) → a < length p.ops → b < length p.ops
       → (place_of p.ops (matrix_times whole (op_at p.ops a).rot (op_at p.ops b).rot) < length p.ops)

@@ -13,11 +13,10 @@ use Rattle.std.specs.declared.cmp.Ordering.{Ordering}
 use Rattle.std.specs.declared.cmp.Ordering.TheVariants.{Greater}
 use Rattle.space_ops.specs.declared.op.Op.{Op}
 use Rattle.space_ops.specs.declared.lattice.Lattice.{Lattice}
-use Rattle.space_ops.specs.Whole.{whole}
-use Rattle.space_ops.specs.Matrix.{Vector, vector_sum}
+use Rattle.space_ops.specs.Matrix.{Vector}
 use Rattle.space_ops.specs.Seitz.{Seitz}
 use Rattle.space_ops.specs.Op.{number_at, shift_of, vector_of, rows_of, matrix_of, seitz_of, op_of}
-use Rattle.space_ops.specs.Words.{cell_edges, vector_difference, IsLatticeVector}
+use Rattle.space_ops.specs.Words.{vector_difference, IsLatticeVector}
 
 abbrev pub vector_cmp : Vector ℤ → Vector ℤ → Ordering
 vector_cmp v w = slice_cmp int_cmp (shift_of v) (shift_of w)

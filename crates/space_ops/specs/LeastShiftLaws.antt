@@ -4,7 +4,7 @@
 -- least-unique: translations that differ by a lattice vector have one least translation
 -- least-itself: a least translation is its own
 -- reduced-unique: two sums in the cell that differ by whole cell edges are equal
-use Rattle.std.proofs.Common.{◌≡◌, refl, sym, ap, ◌∙◌, subst, ℕ, zero, suc, ◌<◌, ◌*◌, ◌+◌, inl, inr, ◌⊎◌, ℤ, pos, negsuc, ◌+ℤ◌, ◌*ℤ◌, ◌≤ℤ◌, List, [], ◌∷◌, arith}
+use Rattle.std.proofs.Common.{◌≡◌, refl, sym, ap, ◌∙◌, ℤ, pos, ◌+ℤ◌, ◌*ℤ◌, List, [], ◌∷◌, arith}
 use Rattle.std.proofs.lemmas.Int.{ints}
 use Rattle.std.proofs.lemmas.Cmp.{lists_total, on_total, int_cmp_total}
 use Rattle.std.proofs.lemmas.Map.Lookups.{exact_signed}
@@ -15,7 +15,7 @@ use Rattle.std.specs.declared.cmp.Ordering.{Ordering}
 use Rattle.std.specs.declared.cmp.Ordering.TheVariants.{Less, Equal, Greater}
 use Rattle.space_ops.specs.declared.lattice.Lattice.{Lattice}
 use Rattle.space_ops.specs.Whole.{whole}
-use Rattle.space_ops.specs.Matrix.{Vector, vector_sum, minus_vector, zero_vector}
+use Rattle.space_ops.specs.Matrix.{Vector, vector_sum}
 use Rattle.space_ops.specs.MatrixLaws.{same_vector}
 use Rattle.space_ops.specs.Op.{shift_of}
 use Rattle.space_ops.specs.Words.{cell_edges, vector_difference, IsLatticeVector}

@@ -5,10 +5,12 @@ ghost use Rattle.space_ops.specs.Words.{op_at, HasTooManyRotations, HasExtraTran
 
 use crate::closing::closed_ops;
 use crate::find::place_of;
+use crate::generators::are_generators;
 use crate::lattice::Lattice;
 use crate::op::Op;
 use crate::order::sort_after_first;
 use arrayvec::ArrayVec;
+use iso_text::NoMemory;
 use std::alloc::Global;
 use std::marker::Model;
 use thiserror::Error;
@@ -51,7 +53,7 @@ impl Model for Group {
 }
 
 impl Group {
-    ghost use Rattle.std.specs.Prelude.{◌≡◌, ℕ, ◌<◌, ◌≤◌, IfOk, IfErr, MatchOption, length, slice_index_or};
+    ghost use Rattle.std.specs.Prelude.{◌≡◌, ℕ, ◌<◌, ◌≤◌, IfOk, IfErr, IsTrue, MatchOption, length, slice_index_or};
     ghost use Rattle.space_ops.specs.Op.{matrix_of, identity_op};
     ghost use Rattle.space_ops.specs.Words.{op_at, HasTooManyRotations, HasExtraTranslation};
     ghost use Rattle.space_ops.specs.Group.{AreGenerators, IsParentGroup, IsCauseOf};
@@ -63,6 +65,8 @@ impl Group {
         ensures group { IfOk result (λ group. IsParentGroup group) }
         ensures lattice { IfOk result (λ group. group.lattice ≡ lattice) }
         ensures generators { IfOk result (λ group. group.generators ≡ generators.now) }
+        ensures few { IfOk result (λ _. HasTooManyRotations generators.now lattice → ⊥) }
+        ensures pure { IfOk result (λ _. HasExtraTranslation generators.now lattice → ⊥) }
         ensures cause { IfErr result (λ error. IsCauseOf generators.now lattice error) }
     {
         let mut ops = closed_ops(alloc, generators, lattice)?;
@@ -71,6 +75,29 @@ impl Group {
         Ok(Group {
             ops,
             lattice,
+            generators,
+        })
+    }
+
+    /// Whether `close` may be given these generators.
+    pub fn can_close(generators: &[Op]) -> bool
+        ensures { IsTrue result → AreGenerators generators.now }
+    {
+        generators.len() <= 5 && are_generators(generators)
+    }
+
+    /// The same group again.
+    pub fn copy(&self, alloc: Global) -> Result<Group, NoMemory>
+        ensures { IfOk result (λ copy. copy ≡ self.now) }
+    {
+        let ops = match Vec::from_slice(alloc, &self.ops) {
+            Ok(ops) => ops,
+            Err(_) => return Err(NoMemory),
+        };
+        let generators = copied(self.generators.as_slice());
+        Ok(Group {
+            ops,
+            lattice: self.lattice,
             generators,
         })
     }

@@ -6,6 +6,7 @@
 
 mod closing;
 mod find;
+mod generators;
 mod group;
 mod keeping;
 mod lattice;
@@ -20,3 +21,6 @@ mod steps;
 pub use group::{Group, GroupError};
 pub use lattice::Lattice;
 pub use op::{Op, TWELFTHS};
+
+#[cfg(test)]
+mod tests;

@@ -114,7 +114,8 @@ fn widened(row: [i8; 3]) -> [i32; 3]
     [i32::from(row[0]), i32::from(row[1]), i32::from(row[2])]
 }
 
-fn determinant_of(a: [[i8; 3]; 3]) -> i32
+/// The determinant.
+pub fn determinant_of(a: [[i8; 3]; 3]) -> i32
     requires { IsSmallRotation a }
     ensures { result ≡ determinant whole (matrix_of a) }
 {

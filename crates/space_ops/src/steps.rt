@@ -15,7 +15,11 @@ use crate::least_shift::least_op;
 use crate::op::Op;
 use arrayvec::ArrayVec;
 
-fn add_steps(steps: &mut ArrayVec<Op, 10>, generator: Op, lattice: Lattice) -> Result<(), GroupError>
+fn add_steps(
+    steps: &mut ArrayVec<Op, 10>,
+    generator: Op,
+    lattice: Lattice,
+) -> Result<(), GroupError>
     requires room { length steps.old.items + 2 ≤ 10 }
     requires small { IsSmallMatrix (seitz_of generator).rot }
     requires unimodular { IsUnimodular (seitz_of generator).rot }

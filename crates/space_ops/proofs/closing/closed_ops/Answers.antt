@@ -1,8 +1,7 @@
-use Rattle.std.proofs.Common.{◌≡◌, refl, sym, ap, ◌∙◌, subst, rules, Bool, true, false, ℕ, ◌<◌, Err, List, [], ◌∷◌, length}
+use Rattle.std.proofs.Common.{◌≡◌, sym, ap, ◌∙◌, subst, false, ℕ, ◌<◌, Err, List, length}
 use Rattle.std.proofs.lemmas.Result.{err_from_is_err_and}
 use Rattle.space_ops.specs.declared.op.Op.{Op}
 use Rattle.space_ops.specs.declared.lattice.Lattice.{Lattice}
-use Rattle.space_ops.specs.Op.{identity_op}
 use Rattle.space_ops.specs.Words.{op_at}
 use Rattle.space_ops.specs.Closing.{AreStepOps, IsClosing, KeepsLattice, LosesLattice}
 use Rattle.space_ops.proofs.ClosingLemmas.{identity-start}
@@ -36,10 +35,10 @@ returns-then-conflict-clause-err c =
       not-many c.args.generators.now c.args.lattice c.as_slice.result.now c.hold_all.new.held.items s c.in_ok-conflict.conflict c.in_ok-conflict.ensures.ok,
       elim c.then-conflict.branch [
         | then-conflict-via-then-conflict w ↦
-          conflict-extra c.args.generators.now c.args.lattice c.as_slice.result.now c.hold_all.new.held.items s c.in_ok-conflict.conflict c.in_ok-conflict.ensures.ok c.requires.unimodular w.if-conflict.true
+            conflict-extra c.args.generators.now c.args.lattice c.as_slice.result.now c.hold_all.new.held.items s c.in_ok-conflict.conflict c.in_ok-conflict.ensures.ok c.requires.unimodular w.if-conflict.true
         | then-conflict-via-else-conflict+then-not-all_keep_lattice w ↦
-          let k = lost c.args.lattice w.deref.result.now c.hold_all.new.held.items w.deref.ensures.value (w.all_keep_lattice.ensures.no w.if-not-all_keep_lattice.true) in
-          loses-extra c.args.generators.now c.args.lattice c.as_slice.result.now c.hold_all.new.held.items s c.in_ok-conflict.conflict c.in_ok-conflict.ensures.ok c.requires.unimodular k.0 k.1 k.2
+            let k = lost c.args.lattice w.deref.result.now c.hold_all.new.held.items w.deref.ensures.value (w.all_keep_lattice.ensures.no w.if-not-all_keep_lattice.true) in
+            loses-extra c.args.generators.now c.args.lattice c.as_slice.result.now c.hold_all.new.held.items s c.in_ok-conflict.conflict c.in_ok-conflict.ensures.ok c.requires.unimodular k.0 k.1 k.2
       ],
     )
 

@@ -1,4 +1,4 @@
-use Rattle.std.proofs.Common.{◌≡◌, sym, subst, ap, ◌∙◌, ℕ, ◌<◌, ◌≤◌, List, length, get_or, arith}
+use Rattle.std.proofs.Common.{◌≡◌, subst, ap, ◌∙◌, ℕ, ◌<◌, List, length, get_or, arith}
 use Rattle.std.proofs.lemmas.List.{get_or_default}
 use Rattle.space_ops.specs.declared.op.Op.{Op}
 use Rattle.space_ops.specs.Whole.{whole}
@@ -52,6 +52,6 @@ pub returns-clause-ok : goal.returns-clause-ok
 returns-clause-ok c =
     let e : c.loop-step.step-index ≡ length c.args.steps.now = omega (arith, c.loop-step-test.false, c.loop-step.auto.step-index-end) in (
       row-done c.args.steps.now c.args.lattice c.loop-step.held.items c.loop-step.conflicts c.args.next
-      (subst (λ k. IsClosing c.args.steps.now c.args.lattice c.loop-step.held.items c.loop-step.conflicts c.args.next k) e c.loop-step.invariant.closing),
+          (subst (λ k. IsClosing c.args.steps.now c.args.lattice c.loop-step.held.items c.loop-step.conflicts c.args.next k) e c.loop-step.invariant.closing),
       c.loop-step.invariant.grown,
     )

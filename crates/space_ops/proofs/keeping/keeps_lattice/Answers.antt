@@ -1,4 +1,4 @@
-use Rattle.std.proofs.Common.{◌≡◌, ◌∙◌, subst, ℕ, ◌<◌, ℤ, List, [], length, get_or}
+use Rattle.std.proofs.Common.{◌∙◌, subst, ℕ, ◌<◌, ℤ, List, [], length, get_or}
 use Rattle.space_ops.specs.Whole.{whole}
 use Rattle.space_ops.specs.Matrix.{image_under}
 use Rattle.space_ops.specs.Op.{matrix_of, vector_of}

@@ -1,5 +1,5 @@
-use Rattle.space_ops.proofs.LeastLemmas.{first-more, first-start}
-use Rattle.std.proofs.Common.{ap, ◌∙◌, sym, subst}
+use Rattle.space_ops.proofs.LeastLemmas.{first-more}
+use Rattle.std.proofs.Common.{sym, subst}
 use Rattle.space_ops.specs.LeastShift.{IsFirstOfReduced}
 use Rattle.space_ops.proofs.least_shift.least_of.Goals as goal
 

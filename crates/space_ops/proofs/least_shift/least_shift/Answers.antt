@@ -1,4 +1,4 @@
-use Rattle.std.proofs.Common.{ap, ◌∙◌, subst, ℤ, List, length}
+use Rattle.std.proofs.Common.{◌∙◌, subst, ℤ, List, length}
 use Rattle.space_ops.specs.LeastShift.{IsFirstOfReduced}
 use Rattle.space_ops.proofs.LeastLemmas.{first-least}
 use Rattle.space_ops.proofs.least_shift.least_shift.Goals as goal

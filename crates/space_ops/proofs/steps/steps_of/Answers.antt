@@ -1,4 +1,4 @@
-use Rattle.std.proofs.Common.{◌≡◌, sym, ap, ◌∙◌, subst, ◌+◌, ◌*◌, List, [], ◌∷◌, ◌++◌, length, get_or, arith, length-append}
+use Rattle.std.proofs.Common.{◌≡◌, ap, subst, ◌+◌, ◌*◌, List, [], ◌∷◌, ◌++◌, length, arith}
 use Rattle.std.proofs.lemmas.List.{get_or_default}
 use Rattle.space_ops.specs.declared.op.Op.{Op}
 use Rattle.space_ops.specs.Whole.{whole}
@@ -25,7 +25,7 @@ returns-in-Err-clause-err c =
     let k = c.loop-generator.generator-index in (
       c.in-Err.ensures.err.0,
       large-inverse c.args.generators.now c.args.lattice k c.loop-generator-test.true
-      (subst (λ (o : Op). IsSmallMatrix (seitz_inverse whole (seitz_of o)).rot → ⊥) (get_or_default c.args.generators.now k _ identity_op c.loop-generator-test.true) c.in-Err.ensures.err.1),
+          (subst (λ (o : Op). IsSmallMatrix (seitz_inverse whole (seitz_of o)).rot → ⊥) (get_or_default c.args.generators.now k _ identity_op c.loop-generator-test.true) c.in-Err.ensures.err.1),
     )
 
 two_more : (S S' : List Op) (a b : Op) (k : _) → S' ≡ (S ++ a ∷ []) ++ b ∷ [] → length S ≡ 2 * k → length S' ≡ 2 * (k + 1)

@@ -1,0 +1,11 @@
+use Rattle.std.proofs.Common.{subst, below_more}
+use Rattle.std.proofs.lemmas.List.{get_or_default}
+use Rattle.space_ops.specs.declared.op.Op.{Op}
+use Rattle.space_ops.specs.Op.{seitz_of, identity_op}
+use Rattle.space_ops.specs.Group.{IsGeneratorOp}
+use Rattle.space_ops.proofs.generators.are_generators.Goals as goal
+
+pub loop-op-preserved : goal.loop-op-preserved
+loop-op-preserved c =
+    below_more _ _ c.loop-op.invariant
+    (subst (λ (o : Op). IsGeneratorOp (seitz_of o)) (get_or_default c.args.generators.now c.loop-op.op-index _ identity_op c.loop-op-test.true) (c.is_generator.ensures c.if-not-is_generator.false))
