@@ -1,0 +1,179 @@
+// Whole Hall symbols.
+ghost use Rattle.std.specs.Prelude.{◌≡◌, ◌<◌, ◌≤◌, ◌+◌, ◌++◌, [], ◌∷◌, true, false, length, map, option_map, IfNone, IfSome, IfOk, OnErr, List};
+ghost use Rattle.arrayvec.specs.ArrayVec.{array_vec_len};
+ghost use Rattle.space_ops.specs.Op.{IsShiftWithin};
+ghost use Rattle.hall_symbol.specs.Operations as operations;
+ghost use Rattle.hall_symbol.specs.Reading as reading;
+
+use crate::generator::{Generator, generator_of};
+use crate::operation::op_at;
+use crate::origin::{is_byte, shift_at};
+use crate::part::{part_in, sign_at};
+use crate::rotation::Rotation;
+use crate::words::{next_word, trimmed};
+use arrayvec::ArrayVec;
+use space_ops::{Lattice, Op};
+use thiserror::Error;
+
+/// The most bytes of a symbol, without the blanks at its ends.
+pub const MAX_BYTES: usize = 80;
+
+/// The most parts of a symbol.
+pub const MAX_PARTS: usize = 4;
+
+/// The text is no Hall symbol.
+#[derive(Clone, Copy, Debug, PartialEq, Eq, Error)]
+#[error("bad Hall symbol")]
+pub struct BadHall;
+
+/// The lattice of a symbol and its generators, the inversion first where there is one.
+#[derive(Debug, Drop)]
+pub struct Generators {
+    pub lattice: Lattice,
+    pub ops: ArrayVec<Op, 5>,
+}
+
+fn lattice_of_byte(byte: u8) -> Option<Lattice>
+    ensures { result ≡ reading.lattice_of_byte byte }
+{
+    match byte {
+        b'P' => Some(Lattice::P),
+        b'A' => Some(Lattice::A),
+        b'B' => Some(Lattice::B),
+        b'C' => Some(Lattice::C),
+        b'I' => Some(Lattice::I),
+        b'R' => Some(Lattice::R),
+        b'F' => Some(Lattice::F),
+        _ => None,
+    }
+}
+
+#[tactic(auto, unfolding(crate::specs::Reading::lattice_in))]
+fn lattice_in(word: &[u8]) -> Option<Lattice>
+    ensures { result ≡ reading.lattice_in word.now }
+{
+    match word {
+        [letter] => lattice_of_byte(*letter),
+        _ => None,
+    }
+}
+
+// Whether the symbol has the inversion, its lattice, and what stands behind.
+#[tactic(auto, unfolding(crate::specs::Reading::head_at))]
+fn head_at(text: &[u8]) -> Option<(bool, Lattice, &[u8])>
+    ensures value { option_map (λ h. (h.0, h.1, reading.words h.2.now)) result ≡ reading.head_at (reading.words text.now) }
+    ensures shorter { IfSome result (λ h. length h.2.now ≤ length text.now) }
+{
+    let (word, rest) = next_word(text)?;
+    let (inverted, letter) = sign_at(word);
+    let lattice = lattice_in(letter)?;
+    Some((inverted, lattice, rest))
+}
+
+fn inversion() -> Generator
+    ensures { result ≡ operations.inversion }
+{
+    Generator {
+        rotation: Rotation::One,
+        negated: true,
+        screw: [0; 3],
+        letters: [0; 3],
+    }
+}
+
+// The word of the next part and what stands behind it, where a part stands next.
+fn next_part(text: &[u8]) -> Option<(&[u8], &[u8])>
+    ensures none { IfNone result (reading.ends_parts (reading.words text.now) ≡ true) }
+    ensures word { IfSome result (λ p. reading.words text.now ≡ p.0.now ∷ reading.words p.1.now) }
+    ensures other { IfSome result (λ p. reading.is_byte 40 p.0.now ≡ false) }
+    ensures shorter { IfSome result (λ p. length p.0.now + length p.1.now ≤ length text.now) }
+    ensures some { IfSome result (λ p. 0 < length p.0.now) }
+{
+    let (word, rest) = next_word(text)?;
+    if is_byte(b'(', word) {
+        None
+    } else {
+        Some((word, rest))
+    }
+}
+
+#[tactic(auto, unfolding(crate::specs::Reading::generator_in))]
+fn generator_in(before: &[Generator], word: &[u8]) -> Option<Generator>
+    requires { length word.now ≤ 80 }
+    ensures value { result ≡ reading.generator_in before.now word.now }
+    ensures room { IfSome result (λ g. length before.now < 4) }
+{
+    if before.len() < MAX_PARTS {
+        let part = part_in(word)?;
+        generator_of(before, part)
+    } else {
+        None
+    }
+}
+
+// The generators of the parts, and what stands behind them.
+fn parts_at(text: &[u8]) -> Option<(ArrayVec<Generator, 4>, &[u8])>
+    requires { length text.now ≤ 80 }
+    ensures value { option_map (λ p. (p.0.items, reading.words p.1.now)) result ≡ reading.parts_at [] (reading.words text.now) }
+    ensures few { IfSome result (λ p. array_vec_len p.0 ≤ 4) }
+{
+    let mut generators: ArrayVec<Generator, 4> = ArrayVec::new();
+    let mut rest = text;
+    'parts: while let Some((word, behind)) = next_part(rest) {
+        let generator = generator_in(generators.as_slice(), word)?;
+        generators.push(generator);
+        rest = behind;
+    }
+    Some((generators, rest))
+}
+
+fn first_ops(inverted: bool, origin: [i32; 3]) -> ArrayVec<Op, 5>
+    requires { IsShiftWithin 12 origin }
+    ensures { result.items ≡ map (operations.op_at origin) (operations.inversion_of inverted) }
+{
+    let mut ops = ArrayVec::new();
+    if inverted {
+        ops.push(op_at(origin, inversion()));
+    }
+    ops
+}
+
+// The operations of the generators, those of the inversion first.
+fn ops_at(inverted: bool, generators: &[Generator], origin: [i32; 3]) -> ArrayVec<Op, 5>
+    requires few { length generators.now ≤ 4 }
+    requires origin { IsShiftWithin 12 origin }
+    ensures { result.items ≡ map (operations.op_at origin) (operations.inversion_of inverted ++ generators.now) }
+{
+    let mut ops = first_ops(inverted, origin);
+    'generators: for generator in generators {
+        ops.push(op_at(origin, *generator));
+    }
+    ops
+}
+
+#[tactic(auto, unfolding(crate::specs::Reading::symbol_at))]
+fn symbol_at(text: &[u8]) -> Option<Generators>
+    requires { length text.now ≤ 80 }
+    ensures { option_map (λ g. (g.lattice, g.ops.items)) result ≡ reading.symbol_at (reading.words text.now) }
+{
+    let (inverted, lattice, rest) = head_at(text)?;
+    let (generators, rest) = parts_at(rest)?;
+    let origin = shift_at(rest)?;
+    if generators.is_empty() {
+        return None;
+    }
+    let ops = ops_at(inverted, generators.as_slice(), origin);
+    Some(Generators { lattice, ops })
+}
+
+#[tactic(auto, unfolding(crate::specs::Reading::symbol_of))]
+pub fn symbol_of(text: &[u8]) -> Option<Generators>
+    ensures { option_map (λ g. (g.lattice, g.ops.items)) result ≡ reading.symbol_of text.now }
+{
+    let text = trimmed(text);
+    if text.len() <= MAX_BYTES {
+        symbol_at(text)
+    } else {
+        None
+    }
+}
