@@ -68,16 +68,16 @@ pub with_front-append : (front more : List ℕ) (ws : List (List ℕ)) → with_
 with_front-append front more [] = refl
 with_front-append front more (w ∷ ws) = ap (λ v. v ∷ ws) (append_assoc front more w)
 
-words-stop : (c : ℕ) (cs : List ℕ) → is_blank c ≡ false → ends_word (c ∷ cs) ≡ true → words (c ∷ cs) ≡ (c ∷ []) ∷ words cs
+pub words-stop : (c : ℕ) (cs : List ℕ) → is_blank c ≡ false → ends_word (c ∷ cs) ≡ true → words (c ∷ cs) ≡ (c ∷ []) ∷ words cs
 unfolding words
 words-stop c cs other ends = rw (other, ends) refl
 
-words-go : (c : ℕ) (cs : List ℕ) → is_blank c ≡ false → ends_word (c ∷ cs) ≡ false → words (c ∷ cs) ≡ with_front (c ∷ []) (words cs)
+pub words-go : (c : ℕ) (cs : List ℕ) → is_blank c ≡ false → ends_word (c ∷ cs) ≡ false → words (c ∷ cs) ≡ with_front (c ∷ []) (words cs)
 unfolding words
 words-go c cs other ends = rw (other, ends) refl
 
 -- what stands behind a byte that doesn't end a word begins with no blank
-goes_on : (c : ℕ) (cs : List ℕ) → ends_word (c ∷ cs) ≡ false → begins_word cs ≡ true
+pub goes_on : (c : ℕ) (cs : List ℕ) → ends_word (c ∷ cs) ≡ false → begins_word cs ≡ true
 goes_on c [] h = grind arith
 goes_on c (d ∷ ds) h = grind arith
 

@@ -11,7 +11,7 @@ use Rattle.space_ops.specs.declared.lattice.Lattice.{Lattice}
 use Rattle.space_ops.specs.declared.lattice.Lattice.TheVariants.{P, A, B, C, I, R, F}
 use Rattle.space_ops.specs.declared.op.Op.{Op}
 use Rattle.hall_symbol.specs.declared.generator.Generator.{Generator}
-use Rattle.hall_symbol.specs.Operations.{op_at, inversion_of}
+use Rattle.hall_symbol.specs.Operations.{op_at_origin, inversion_of}
 use Rattle.hall_symbol.specs.Parts.{Spelling, IsSpelling, text_of, part_of, sign_text, generators_of}
 use Rattle.hall_symbol.specs.Words.{AreWords, trimmed, opening, closing}
 
@@ -85,4 +85,4 @@ pub record IsHallSymbol (text : List ℕ) (lattice : Lattice) (ops : List Op) : 
   pub spelled : All IsSpelling parts
   pub shifted : IsOriginShift ending shift
   pub generated : generators_of [] (map part_of parts) ≡ Some generators
-  pub ops_are : ops ≡ map (op_at shift) (inversion_of inverted ++ generators)
+  pub ops_are : ops ≡ map (op_at_origin shift) (inversion_of inverted ++ generators)

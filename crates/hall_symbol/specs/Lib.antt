@@ -1,5 +1,6 @@
 pub mod Words
 pub mod Rotations
+pub mod RotationLaws
 pub mod Parts
 pub mod Operations
 pub mod Grammar

@@ -1,17 +1,18 @@
 -- The operations of the generators, seen from a shifted origin.
 --
 -- signed negated rot: R or -R
--- op_at v generator: {R | t + v - R v}, its translation modulo 1
+-- op_at_origin v generator: {R | t + v - R v}, its translation modulo 1
 -- inversion: {-E|0}
-use Rattle.std.specs.Prelude.{ℕ, ◌+◌, ℤ, pos, ◌+ℤ◌, ◌-ℤ◌, neg_ℤ, Bool, true, false, List, [], ◌∷◌, slice_index_or}
+-- IsFit op: what a group can be closed from: entries from -3 to 3, determinant 1 or -1, a translation from 0 to 11
+use Rattle.std.specs.Prelude.{ℕ, ◌+◌, ℤ, pos, ◌+ℤ◌, ◌-ℤ◌, ◌≤ℤ◌, neg_ℤ, Bool, true, false, List, [], ◌∷◌, slice_index_or}
 use Rattle.std.specs.Int.{int_rem_euclid}
 use Rattle.space_ops.specs.declared.op.Op.{Op}
 use Rattle.space_ops.specs.Matrix.{row_times}
-use Rattle.space_ops.specs.Op.{number_at, row_at}
+use Rattle.space_ops.specs.Op.{number_at, row_at, matrix_of, IsSmallRotation, IsUnimodular}
 use Rattle.space_ops.specs.Whole.{whole}
 use Rattle.hall_symbol.specs.declared.generator.Generator.{Generator}
 use Rattle.hall_symbol.specs.declared.rotation.Rotation.TheVariants.{One}
-use Rattle.hall_symbol.specs.Rotations.{matrix_of}
+use Rattle.hall_symbol.specs.Rotations.{rotation_rows}
 
 -- a row with the opposite signs
 abbrev pub opposite_row : List ℤ → List ℤ
@@ -35,18 +36,30 @@ abbrev pub shift_along : Generator → ℕ → ℕ
 shift_along g i = slice_index_or g.screw i 0 + slice_index_or g.letters i 0
 
 -- the rows of the generator's rotation
-abbrev pub rows_of : Generator → List (List ℤ)
-rows_of g = signed g.negated (matrix_of g.rotation)
+abbrev pub generator_rows : Generator → List (List ℤ)
+generator_rows g = signed g.negated (rotation_rows g.rotation)
 
 -- {R | t + v - R v}
-abbrev pub op_at : List ℤ → Generator → Op
-op_at v g = record {
-  rot = rows_of g;
-  shift = coordinate_at (row_at (rows_of g) 0) (shift_along g 0) (number_at v 0) v
-    ∷ coordinate_at (row_at (rows_of g) 1) (shift_along g 1) (number_at v 1) v
-    ∷ coordinate_at (row_at (rows_of g) 2) (shift_along g 2) (number_at v 2) v
+abbrev pub op_at_origin : List ℤ → Generator → Op
+op_at_origin v g = record {
+  rot = generator_rows g;
+  shift = coordinate_at (row_at (generator_rows g) 0) (shift_along g 0) (number_at v 0) v
+    ∷ coordinate_at (row_at (generator_rows g) 1) (shift_along g 1) (number_at v 1) v
+    ∷ coordinate_at (row_at (generator_rows g) 2) (shift_along g 2) (number_at v 2) v
     ∷ [];
 }
+
+-- from 0 to 11 twelfths
+abbrev pub IsReduced : ℤ → Type 0
+IsReduced t = (pos 0 ≤ℤ t) × (t ≤ℤ pos 11)
+
+-- what a group can be closed from
+pub record IsFit (op : Op) : Type 0 where
+  pub small : IsSmallRotation op.rot
+  pub unimodular : IsUnimodular (matrix_of op.rot)
+  pub x : IsReduced (number_at op.shift 0)
+  pub y : IsReduced (number_at op.shift 1)
+  pub z : IsReduced (number_at op.shift 2)
 
 -- {-E|0}
 abbrev pub inversion : Generator

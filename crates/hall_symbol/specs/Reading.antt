@@ -13,7 +13,7 @@ use Rattle.hall_symbol.specs.declared.rotation.Order.TheVariants as order
 use Rattle.hall_symbol.specs.declared.part.Part.{Part}
 use Rattle.hall_symbol.specs.declared.generator.Generator.{Generator}
 use Rattle.hall_symbol.specs.Grammar.{signed_number}
-use Rattle.hall_symbol.specs.Operations.{op_at, inversion_of}
+use Rattle.hall_symbol.specs.Operations.{op_at_origin, inversion_of}
 use Rattle.hall_symbol.specs.Parts.{◌>>=◌, is_letter, letters_shift, generator_of}
 use Rattle.hall_symbol.specs.Words.{is_blank, can_follow, trimmed}
 
@@ -201,7 +201,7 @@ symbol_at ws =
     head_at ws >>= λ head.
     parts_at [] head.2 >>= λ parts.
     shift_at parts.1 >>= λ shift.
-    if nat_lt 0 (length parts.0) then Some (head.1, map (op_at shift) (inversion_of head.0 ++ parts.0)) else None
+    if nat_lt 0 (length parts.0) then Some (head.1, map (op_at_origin shift) (inversion_of head.0 ++ parts.0)) else None
 
 -- what is read of a text
 unfoldable pub symbol_of : List ℕ → Option (Lattice × List Op)

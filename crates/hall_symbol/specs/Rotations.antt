@@ -1,7 +1,7 @@
 -- The sixteen rotations of the Hall symbols.
 --
 -- value_of order: the number N
--- matrix_of rotation: its rows
+-- rotation_rows rotation: its rows
 -- axis_of rotation: the axis of the cell that it is about
 use Rattle.std.specs.Prelude.{ℕ, ℤ, List, Option, Some, None}
 use Rattle.hall_symbol.specs.declared.rotation.CellAxis.{CellAxis}
@@ -21,23 +21,23 @@ value_of order.Four = 4
 value_of order.Six = 6
 
 -- the rows of the matrix
-abbrev pub matrix_of : Rotation → List (List ℤ)
-matrix_of One = table.ONE
-matrix_of TwoZ = table.TWO_Z
-matrix_of ThreeZ = table.THREE_Z
-matrix_of FourZ = table.FOUR_Z
-matrix_of SixZ = table.SIX_Z
-matrix_of TwoX = table.TWO_X
-matrix_of TwoY = table.TWO_Y
-matrix_of FourX = table.FOUR_X
-matrix_of FourY = table.FOUR_Y
-matrix_of TwoPrimeAfterZ = table.TWO_PRIME_AFTER_Z
-matrix_of TwoDoublePrimeAfterZ = table.TWO_DOUBLE_PRIME_AFTER_Z
-matrix_of TwoPrimeAfterX = table.TWO_PRIME_AFTER_X
-matrix_of TwoDoublePrimeAfterX = table.TWO_DOUBLE_PRIME_AFTER_X
-matrix_of TwoPrimeAfterY = table.TWO_PRIME_AFTER_Y
-matrix_of TwoDoublePrimeAfterY = table.TWO_DOUBLE_PRIME_AFTER_Y
-matrix_of ThreeStar = table.THREE_STAR
+abbrev pub rotation_rows : Rotation → List (List ℤ)
+rotation_rows One = table.ONE
+rotation_rows TwoZ = table.TWO_Z
+rotation_rows ThreeZ = table.THREE_Z
+rotation_rows FourZ = table.FOUR_Z
+rotation_rows SixZ = table.SIX_Z
+rotation_rows TwoX = table.TWO_X
+rotation_rows TwoY = table.TWO_Y
+rotation_rows FourX = table.FOUR_X
+rotation_rows FourY = table.FOUR_Y
+rotation_rows TwoPrimeAfterZ = table.TWO_PRIME_AFTER_Z
+rotation_rows TwoDoublePrimeAfterZ = table.TWO_DOUBLE_PRIME_AFTER_Z
+rotation_rows TwoPrimeAfterX = table.TWO_PRIME_AFTER_X
+rotation_rows TwoDoublePrimeAfterX = table.TWO_DOUBLE_PRIME_AFTER_X
+rotation_rows TwoPrimeAfterY = table.TWO_PRIME_AFTER_Y
+rotation_rows TwoDoublePrimeAfterY = table.TWO_DOUBLE_PRIME_AFTER_Y
+rotation_rows ThreeStar = table.THREE_STAR
 
 -- the axis of the cell that the rotation is about
 abbrev pub axis_of : Rotation → Option CellAxis

@@ -1,4 +1,11 @@
-//! temp
+//! Hall symbols of space groups: which texts are one, and the generators that a symbol gives.
+//!
+//! Source: S. R. Hall, Acta Cryst. A37 (1981) 517; International Tables for Crystallography B, A1.4.2.
+//! Conventions: coordinates are columns, `x' = R x + t`; matrices stand row by row; translations are in
+//! twelfths of a cell edge; a text is a list of bytes.
+//!
+//! The contract for the layer above is that of `read`: it is Ok exactly for the texts of
+//! `IsHallSymbol` in `specs/Grammar.antt`, with exactly their generators.
 #![tactic(auto)]
 
 mod generator;
@@ -10,10 +17,4 @@ mod symbol;
 mod table;
 mod words;
 
-pub use generator::{Generator, generator_of};
-pub use operation::op_at;
-pub use symbol::{BadHall, Generators, symbol_of};
-pub use origin::shift_at;
-pub use part::{Part, part_in, sign_at};
-pub use rotation::{order_value, rotation_axis, rotation_matrix};
-pub use words::{next_word, trimmed};
+pub use symbol::{BadHall, Generators, read};

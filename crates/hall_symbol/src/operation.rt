@@ -5,7 +5,7 @@ ghost use Rattle.space_ops.specs.Op.{IsWithin, IsShiftWithin, IsRotationWithin};
 ghost use Rattle.hall_symbol.specs.Operations as operations;
 
 use crate::generator::Generator;
-use crate::rotation::rotation_matrix;
+use crate::rotation::rotation_rows;
 use space_ops::{Op, TWELFTHS};
 
 fn opposite_row(row: [i8; 3]) -> [i8; 3]
@@ -17,11 +17,11 @@ fn opposite_row(row: [i8; 3]) -> [i8; 3]
 }
 
 // The rows of the rotation with its sign.
-fn rows_of(generator: Generator) -> [[i8; 3]; 3]
-    ensures value { result ≡ operations.rows_of generator }
+fn generator_rows(generator: Generator) -> [[i8; 3]; 3]
+    ensures value { result ≡ operations.generator_rows generator }
     ensures within { IsRotationWithin 1 result }
 {
-    let rows = rotation_matrix(generator.rotation);
+    let rows = rotation_rows(generator.rotation);
     if generator.negated {
         [
             opposite_row(rows[0]),
@@ -76,11 +76,11 @@ fn reduced(screw: u16, letters: u16, along: i32, image: i32) -> i32
 }
 
 /// {R | t + v - R v} for a generator {R|t} and an origin shift v.
-pub fn op_at(origin: [i32; 3], generator: Generator) -> Op
+pub fn op_at_origin(origin: [i32; 3], generator: Generator) -> Op
     requires { IsShiftWithin 12 origin }
-    ensures { result ≡ operations.op_at origin generator }
+    ensures { result ≡ operations.op_at_origin origin generator }
 {
-    let rot = rows_of(generator);
+    let rot = generator_rows(generator);
     let screw = generator.screw;
     let letters = generator.letters;
     let x = reduced(screw[0], letters[0], origin[0], image_along(rot[0], origin));

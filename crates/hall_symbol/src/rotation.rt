@@ -1,7 +1,7 @@
 // The rotations that a part of a Hall symbol can name.
 ghost use Rattle.std.specs.Prelude.{◌≡◌};
 ghost use Rattle.space_ops.specs.Op.{IsRotationWithin};
-ghost use Rattle.hall_symbol.specs.Rotations.{matrix_of, axis_of, order_of, value_of};
+ghost use Rattle.hall_symbol.specs.Rotations.{rotation_rows, axis_of, order_of, value_of};
 
 use crate::table;
 
@@ -82,8 +82,8 @@ pub fn rotation_order(rotation: Rotation) -> Order
 }
 
 /// The matrix, row by row.
-pub fn rotation_matrix(rotation: Rotation) -> [[i8; 3]; 3]
-    ensures value { result ≡ matrix_of rotation }
+pub fn rotation_rows(rotation: Rotation) -> [[i8; 3]; 3]
+    ensures value { result ≡ rotation_rows rotation }
     ensures within { IsRotationWithin 1 result }
 {
     match rotation {

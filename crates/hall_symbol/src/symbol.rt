@@ -2,11 +2,15 @@
 ghost use Rattle.std.specs.Prelude.{◌≡◌, ◌<◌, ◌≤◌, ◌+◌, ◌++◌, [], ◌∷◌, true, false, length, map, option_map, IfNone, IfSome, IfOk, OnErr, List};
 ghost use Rattle.arrayvec.specs.ArrayVec.{array_vec_len};
 ghost use Rattle.space_ops.specs.Op.{IsShiftWithin};
+ghost use Rattle.std.specs.List.{All};
+ghost use Rattle.space_ops.specs.declared.lattice.Lattice.{Lattice};
+ghost use Rattle.space_ops.specs.declared.op.Op.{Op};
+ghost use Rattle.hall_symbol.specs.Grammar.{IsHallSymbol};
 ghost use Rattle.hall_symbol.specs.Operations as operations;
 ghost use Rattle.hall_symbol.specs.Reading as reading;
 
 use crate::generator::{Generator, generator_of};
-use crate::operation::op_at;
+use crate::operation::op_at_origin;
 use crate::origin::{is_byte, shift_at};
 use crate::part::{part_in, sign_at};
 use crate::rotation::Rotation;
@@ -129,11 +133,11 @@ fn parts_at(text: &[u8]) -> Option<(ArrayVec<Generator, 4>, &[u8])>
 
 fn first_ops(inverted: bool, origin: [i32; 3]) -> ArrayVec<Op, 5>
     requires { IsShiftWithin 12 origin }
-    ensures { result.items ≡ map (operations.op_at origin) (operations.inversion_of inverted) }
+    ensures { result.items ≡ map (operations.op_at_origin origin) (operations.inversion_of inverted) }
 {
     let mut ops = ArrayVec::new();
     if inverted {
-        ops.push(op_at(origin, inversion()));
+        ops.push(op_at_origin(origin, inversion()));
     }
     ops
 }
@@ -142,11 +146,11 @@ fn first_ops(inverted: bool, origin: [i32; 3]) -> ArrayVec<Op, 5>
 fn ops_at(inverted: bool, generators: &[Generator], origin: [i32; 3]) -> ArrayVec<Op, 5>
     requires few { length generators.now ≤ 4 }
     requires origin { IsShiftWithin 12 origin }
-    ensures { result.items ≡ map (operations.op_at origin) (operations.inversion_of inverted ++ generators.now) }
+    ensures { result.items ≡ map (operations.op_at_origin origin) (operations.inversion_of inverted ++ generators.now) }
 {
     let mut ops = first_ops(inverted, origin);
     'generators: for generator in generators {
-        ops.push(op_at(origin, *generator));
+        ops.push(op_at_origin(origin, *generator));
     }
     ops
 }
@@ -167,7 +171,7 @@ fn symbol_at(text: &[u8]) -> Option<Generators>
 }
 
 #[tactic(auto, unfolding(crate::specs::Reading::symbol_of))]
-pub fn symbol_of(text: &[u8]) -> Option<Generators>
+fn symbol_of(text: &[u8]) -> Option<Generators>
     ensures { option_map (λ g. (g.lattice, g.ops.items)) result ≡ reading.symbol_of text.now }
 {
     let text = trimmed(text);
@@ -175,5 +179,25 @@ pub fn symbol_of(text: &[u8]) -> Option<Generators>
         symbol_at(text)
     } else {
         None
+    }
+}
+
+/// The lattice and the generators of a Hall symbol: the inversion first where there is one, then the
+/// parts in order, each with the origin shift applied, {R|t} becoming {R | t + v - R v}, translations
+/// from 0 to 11 twelfths. It takes no memory. Refused with `BadHall`: every text that is no symbol.
+pub fn read(text: &[u8]) -> Result<Generators, BadHall>
+    ensures ok { IfOk result (λ g. IsHallSymbol text.now g.lattice g.ops.items) }
+    // A symbol has one lattice and one list of generators.
+    ensures only { IfOk result (λ g. (lattice : Lattice) (ops : List Op) → IsHallSymbol text.now lattice ops
+        → (g.lattice ≡ lattice) × (g.ops.items ≡ ops)) }
+    ensures bad { OnErr result ((lattice : Lattice) (ops : List Op) → IsHallSymbol text.now lattice ops → ⊥) }
+
+    // What a group can be closed from.
+    ensures few { IfOk result (λ g. array_vec_len g.ops ≤ 5) }
+    ensures fit { IfOk result (λ g. All operations.IsFit g.ops.items) }
+{
+    match symbol_of(text) {
+        Some(generators) => Ok(generators),
+        None => Err(BadHall),
     }
 }
