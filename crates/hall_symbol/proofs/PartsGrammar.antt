@@ -254,8 +254,8 @@ one_digit-sum (suc front) (suc back) (inr e) = cc e
 -- what is read from the axis on
 part_from-sound : (negated : Bool) (n : Order) (front : ℕ) (w : List ℕ) (p : Part) → part_from negated n front w ≡ Some p
     → let axis = axis_at w in let back = digit_at axis.1 in
-      ((front ≡ 0) ⊎ (back.0 ≡ 0)) × (list_all is_letter back.1 ≡ true)
-        × (let q : Part = record { negated = negated; order = n; digit = front + back.0; axis = axis.0; letters = letters_shift back.1 } in q ≡ p)
+    ((front ≡ 0) ⊎ (back.0 ≡ 0)) × (list_all is_letter back.1 ≡ true)
+    × (let q : Part = record { negated = negated; order = n; digit = front + back.0; axis = axis.0; letters = letters_shift back.1 } in q ≡ p)
 unfolding part_from
 part_from-sound negated n front w p h =
     let axis = axis_at w in
@@ -282,7 +282,7 @@ part_in-sound w p h =
     let s : Spelling = record { negated = sign.0; order = n; front = front.0; axis = axis.0; back = back.0; letters = back.1 } in
     let e-back : front.1 ≡ axis_text axis.0 ++ (digit_text back.0 ++ back.1) = axis_at-split front.1 ∙ ap (λ t. axis_text axis.0 ++ t) back-split.split in
     let e-order : sign.1 ≡ order_byte n ∷ (digit_text front.0 ++ (axis_text axis.0 ++ (digit_text back.0 ++ back.1))) =
-        order_at-sound sign.1 n read.0.1 read.1 ∙ ap (λ t. order_byte n ∷ t) (front-split.split ∙ ap (λ t. digit_text front.0 ++ t) e-back) in
+    order_at-sound sign.1 n read.0.1 read.1 ∙ ap (λ t. order_byte n ∷ t) (front-split.split ∙ ap (λ t. digit_text front.0 ++ t) e-back) in
     (s, record { front = front-split.small; back = back-split.small; one_digit = rest.0; letters = rest.1 }, sign_at-split w ∙ ap (λ t. sign_text sign.0 ++ t) e-order, rest.2)
 
 -- what is read from the axis on, by what its readers give
@@ -305,10 +305,10 @@ part_in-axis s a e h =
     let behind : List ℕ = digit_text s.back ++ s.letters in
     let first : digit_at (digit_text s.front ++ (axis_byte a ∷ behind)) ≡ (s.front, axis_byte a ∷ behind) = digit_at-text s.front (axis_byte a ∷ behind) h.front (no_digit-axis a behind) in
     let written : text_of s ≡ sign_text s.negated ++ (order_byte s.order ∷ (digit_text s.front ++ (axis_byte a ∷ behind))) =
-        ap (λ x. sign_text s.negated ++ (order_byte s.order ∷ (digit_text s.front ++ (axis_text x ++ behind)))) e in
+    ap (λ x. sign_text s.negated ++ (order_byte s.order ∷ (digit_text s.front ++ (axis_text x ++ behind)))) e in
     let read = part_from-read s.negated s.order s.front (axis_byte a ∷ behind) (Some a) behind s.back s.letters (axis_at-byte a behind) (digit_at-text s.back s.letters h.back (no_digit-letters s.letters h.letters)) h.one_digit h.letters in
     ap part_in written ∙ part_in-read s s.front (digit_text s.front ++ (axis_byte a ∷ behind)) (axis_byte a ∷ behind) first ∙ read
-        ∙ ap (λ x. let q : Part = record { negated = s.negated; order = s.order; digit = s.front + s.back; axis = x; letters = letters_shift s.letters } in Some q) (sym e)
+    ∙ ap (λ x. let q : Part = record { negated = s.negated; order = s.order; digit = s.front + s.back; axis = x; letters = letters_shift s.letters } in Some q) (sym e)
 
 -- a part without an axis: its one digit may stand in either place
 part_in-bare : (s : Spelling) (digits : ℕ) → s.axis ≡ None → digit_text s.front ++ (digit_text s.back ++ s.letters) ≡ digit_text digits ++ s.letters → digits ≡ s.front + s.back → digits ≤ 9
@@ -316,13 +316,13 @@ part_in-bare : (s : Spelling) (digits : ℕ) → s.axis ≡ None → digit_text 
 part_in-bare s digits e text sum small h =
     let plain = no_digit-letters s.letters h.letters in
     let written : text_of s ≡ sign_text s.negated ++ (order_byte s.order ∷ (digit_text digits ++ s.letters)) =
-        ap (λ x. sign_text s.negated ++ (order_byte s.order ∷ (digit_text s.front ++ (axis_text x ++ (digit_text s.back ++ s.letters))))) e
-            ∙ ap (λ t. sign_text s.negated ++ (order_byte s.order ∷ t)) text in
+    ap (λ x. sign_text s.negated ++ (order_byte s.order ∷ (digit_text s.front ++ (axis_text x ++ (digit_text s.back ++ s.letters))))) e
+    ∙ ap (λ t. sign_text s.negated ++ (order_byte s.order ∷ t)) text in
     let read = part_from-read s.negated s.order digits s.letters None s.letters 0 s.letters (axis_at-letters s.letters h.letters) (digit_at-none s.letters plain) (inr refl) h.letters in
     let total : digits + 0 ≡ s.front + s.back = omega arith in
     ap part_in written ∙ part_in-read s digits (digit_text digits ++ s.letters) s.letters (digit_at-text digits s.letters small plain) ∙ read
-        ∙ ap (λ d. let q : Part = record { negated = s.negated; order = s.order; digit = d; axis = None; letters = letters_shift s.letters } in Some q) total
-        ∙ ap (λ x. let q : Part = record { negated = s.negated; order = s.order; digit = s.front + s.back; axis = x; letters = letters_shift s.letters } in Some q) (sym e)
+    ∙ ap (λ d. let q : Part = record { negated = s.negated; order = s.order; digit = d; axis = None; letters = letters_shift s.letters } in Some q) total
+    ∙ ap (λ x. let q : Part = record { negated = s.negated; order = s.order; digit = s.front + s.back; axis = x; letters = letters_shift s.letters } in Some q) (sym e)
 
 option-cases : {A : Type 0} (o : Option A) → (o ≡ None) ⊎ ((x : A) × (o ≡ Some x))
 option-cases None = inl refl

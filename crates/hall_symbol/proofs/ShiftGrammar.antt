@@ -158,7 +158,7 @@ written_at-IsWritten : (ws : List (List ℕ)) (v : List ℤ) → IsWritten ws v 
 unfolding shift_at written_at
 written_at-IsWritten ws v h =
     ap shift_at h.words_are
-        ∙ rw (number_at-IsNumber h.p (h.q ∷ h.r ∷ closing ∷ []) h.x h.first, number_at-IsNumber h.q (h.r ∷ closing ∷ []) h.y h.second, number_at-IsNumber h.r (closing ∷ []) h.z h.third) (ap Some (sym h.value))
+    ∙ rw (number_at-IsNumber h.p (h.q ∷ h.r ∷ closing ∷ []) h.x h.first, number_at-IsNumber h.q (h.r ∷ closing ∷ []) h.y h.second, number_at-IsNumber h.r (closing ∷ []) h.z h.third) (ap Some (sym h.value))
 
 -- ---- both directions
 

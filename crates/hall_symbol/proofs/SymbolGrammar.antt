@@ -70,7 +70,7 @@ head_at-sound (w ∷ ws) h e =
     let lattice : read.0 ≡ h.1 = ap (λ p. p.1) value in
     let rest : ws ≡ h.2 = ap (λ p. p.2) value in
     ap (λ v. v ∷ ws) (sign_at-split w ∙ ap (λ t. sign_text sign.0 ++ t) (lattice_in-sound sign.1 read.0 read.1))
-        ∙ (λ i. head_text (inverted i) (lattice i) ∷ rest i)
+    ∙ (λ i. head_text (inverted i) (lattice i) ∷ rest i)
 
 head_at-head_text : (inverted : Bool) (l : Lattice) (ws : List (List ℕ)) → head_at (head_text inverted l ∷ ws) ≡ Some (inverted, l, ws)
 unfolding head_at lattice_in
@@ -212,7 +212,7 @@ parts_at-parts before (s ∷ ss) gs ending spelled e few ends =
     let more = parts_at-parts (before ++ g.0 ∷ []) ss g.1 ending others g.3 (omega arith) ends in
     let joined : (before ++ g.0 ∷ []) ++ g.1 ≡ before ++ gs = append_assoc before (g.0 ∷ []) g.1 ∙ ap (λ hs. before ++ hs) g.4 in
     parts_at-more before (text_of s ∷ (map text_of ss ++ ending)) (text_of s) (map text_of ss ++ ending) g.0 refl (is_byte-order s.negated s.order _) read
-        ∙ more ∙ ap (λ hs. Some (hs, ending)) joined
+    ∙ more ∙ ap (λ hs. Some (hs, ending)) joined
 
 -- as many generators as parts
 length-generators_of : (before : List Generator) (ps : List Part) (gs : List Generator) → generators_of before ps ≡ Some gs → length gs ≡ length ps

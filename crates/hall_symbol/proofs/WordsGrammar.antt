@@ -42,7 +42,7 @@ words-same : (c : ℕ) (cs ds : List ℕ) → can_follow ds ≡ can_follow cs �
 unfolding words
 words-same c cs ds e f =
     ap (λ v. cond (is_blank c) v (cond (ends_word (c ∷ ds)) ((c ∷ []) ∷ v) (with_front (c ∷ []) v))) f
-        ∙ ap (λ t. cond (is_blank c) (words cs) (cond (c == 40 || t) ((c ∷ []) ∷ words cs) (with_front (c ∷ []) (words cs)))) e
+    ∙ ap (λ t. cond (is_blank c) (words cs) (cond (c == 40 || t) ((c ∷ []) ∷ words cs) (with_front (c ∷ []) (words cs)))) e
 
 words-before_blanks : (text : List ℕ) → words (before_blanks text) ≡ words text
 words-before_blanks [] = refl
@@ -99,7 +99,7 @@ words-plain c (d ∷ ds) rest plain follow =
     let c-open : (c == 40) ≡ false = (or-false (c == 40) (c == 41) first.1).0 in
     let d-close : (d == 41) ≡ false = (or-false (d == 40) (d == 41) second.1).1 in
     words-go c (d ∷ (ds ++ rest)) first.0 (or_false (c == 40) (is_blank d || d == 41) c-open (or_false (is_blank d) (d == 41) second.0 d-close))
-        ∙ ap (with_front (c ∷ [])) (words-plain d ds rest others follow)
+    ∙ ap (with_front (c ∷ [])) (words-plain d ds rest others follow)
 
 -- a word at the front of a text
 pub words-append : (w rest : List ℕ) → is_word w ≡ true → (w ≡ opening) ⊎ (can_follow rest ≡ true) → words (w ++ rest) ≡ w ∷ words rest
@@ -115,7 +115,7 @@ unfolding words
 words-AreWords [] text h blanks = ap words (sym (append-nil text)) ∙ words-blanks text [] blanks
 words-AreWords (w ∷ ws) text h (blanks, rest, blank, split, side, more) =
     ap words split ∙ words-blanks blanks (w ++ rest) blank ∙ words-append w rest (and-first (is_word w) (list_all is_word ws) h) side
-        ∙ ap (λ vs. w ∷ vs) (words-AreWords ws rest (and-second (is_word w) (list_all is_word ws) h) more)
+    ∙ ap (λ vs. w ∷ vs) (words-AreWords ws rest (and-second (is_word w) (list_all is_word ws) h) more)
 
 -- ---- what is read of a text
 
@@ -187,10 +187,14 @@ open-side (c ∷ d ∷ ds) h bracket = absurd (plain-open (c ∷ d ∷ ds) h bra
 
 AreWords-AreTokens : (ws : List (List ℕ)) (text : List ℕ) → list_all is_word ws ≡ true → AreTokens ws text → AreWords ws text
 AreWords-AreTokens [] text h tokens = tokens
-AreWords-AreTokens (w ∷ ws) text h (blanks, rest, all, split, side, more) =
-    (blanks, rest, all, split,
-     elim side [ inl bracket ↦ inl (open-side w (and-first (is_word w) (list_all is_word ws) h) bracket) | inr follow ↦ inr follow ],
-     AreWords-AreTokens ws rest (and-second (is_word w) (list_all is_word ws) h) more)
+AreWords-AreTokens (w ∷ ws) text h (blanks, rest, all, split, side, more) = (
+  blanks,
+  rest,
+  all,
+  split,
+  elim side [ inl bracket ↦ inl (open-side w (and-first (is_word w) (list_all is_word ws) h) bracket) | inr follow ↦ inr follow ],
+  AreWords-AreTokens ws rest (and-second (is_word w) (list_all is_word ws) h) more,
+)
 
 -- words of the grammar that are read of a text are words of it
 pub AreWords-words : (ws : List (List ℕ)) (text : List ℕ) → list_all is_word ws ≡ true → words text ≡ ws → AreWords ws text

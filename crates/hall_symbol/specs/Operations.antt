@@ -44,9 +44,9 @@ abbrev pub op_at_origin : List ℤ → Generator → Op
 op_at_origin v g = record {
   rot = generator_rows g;
   shift = coordinate_at (row_at (generator_rows g) 0) (shift_along g 0) (number_at v 0) v
-    ∷ coordinate_at (row_at (generator_rows g) 1) (shift_along g 1) (number_at v 1) v
-    ∷ coordinate_at (row_at (generator_rows g) 2) (shift_along g 2) (number_at v 2) v
-    ∷ [];
+      ∷ coordinate_at (row_at (generator_rows g) 1) (shift_along g 1) (number_at v 1) v
+      ∷ coordinate_at (row_at (generator_rows g) 2) (shift_along g 2) (number_at v 2) v
+      ∷ [];
 }
 
 -- from 0 to 11 twelfths

@@ -3,7 +3,9 @@ ghost use Rattle.std.specs.Prelude.{◌≡◌, ◌+◌, ◌<◌, ◌≤◌, ◌�
 ghost use Rattle.hall_symbol.specs.Parts as parts;
 
 use crate::part::Part;
-use crate::rotation::{Axis, CellAxis, Order, Rotation, order_value, rotation_axis, rotation_order};
+use crate::rotation::{
+    Axis, CellAxis, Order, Rotation, order_value, rotation_axis, rotation_order,
+};
 
 /// A generator as its part names it: the rotation with its sign, and the translations of the digit and
 /// of the letters in twelfths.

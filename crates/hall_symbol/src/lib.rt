@@ -15,6 +15,8 @@ mod part;
 mod rotation;
 mod symbol;
 mod table;
+#[cfg(test)]
+mod tests;
 mod words;
 
 pub use symbol::{BadHall, Generators, read};
