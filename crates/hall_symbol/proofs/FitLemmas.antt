@@ -1,12 +1,12 @@
 -- The operations of a symbol are fit for closing a group from them.
-use Rattle.std.proofs.Common.{◌≡◌, ◌<◌, ◌≤◌, ◌%◌, ℕ, ℤ, pos, negsuc, neg_ℤ, Bool, true, false, List, ◌++◌, map, get_or, arith, rules, subst, sym}
+use Rattle.std.proofs.Common.{◌<◌, ◌%◌, ℕ, ℤ, pos, negsuc, neg_ℤ, Bool, true, false, List, ◌++◌, map, get_or, arith, rules, subst, sym}
 use Rattle.std.proofs.lemmas.Int.{ints}
 use Rattle.std.specs.Int.{int_rem_euclid}
 use Rattle.std.specs.List.{All}
 use Rattle.std.proofs.lemmas.List.Elements.{All-map}
 use Rattle.space_ops.specs.declared.lattice.Lattice.{Lattice}
 use Rattle.space_ops.specs.declared.op.Op.{Op}
-use Rattle.space_ops.specs.Op.{IsWithin, IsShiftWithin, IsSmallRotation, number_at, row_at}
+use Rattle.space_ops.specs.Op.{IsWithin, IsShiftWithin, IsSmallRotation, row_at}
 use Rattle.hall_symbol.specs.declared.generator.Generator.{Generator}
 use Rattle.hall_symbol.specs.declared.rotation.Rotation.{Rotation}
 use Rattle.hall_symbol.specs.declared.rotation.Rotation.TheVariants.{One, TwoZ, ThreeZ, FourZ, SixZ, TwoX, TwoY, FourX, FourY, TwoPrimeAfterZ, TwoDoublePrimeAfterZ, TwoPrimeAfterX, TwoDoublePrimeAfterX, TwoPrimeAfterY, TwoDoublePrimeAfterY, ThreeStar}

@@ -1,4 +1,8 @@
+pub mod Cases
 pub mod FitLemmas
+pub mod HeadGrammar
+pub mod PartFronts
+pub mod PartListGrammar
 pub mod PartsGrammar
 pub mod PartsLemmas
 pub mod Passed

@@ -1,16 +1,20 @@
 -- The origin shift that is read of words is the one that they write.
 --
 -- shift_at-sound, shift_at-IsOriginShift: in both directions
-use Rattle.std.proofs.Common.{◌≡◌, ℕ, ℤ, ◌+◌, ◌-◌, ◌*◌, ◌≤◌, Bool, true, false, List, [], ◌∷◌, ◌++◌, ◌⊎◌, ◌==◌, ◌&&◌, nat_le, Option, Some, None, refl, sym, ap, ◌∙◌, arith, inl, inr, subst}
-use Rattle.std.proofs.lemmas.Bool.{cases_Bool, eqb-true}
+use Rattle.std.proofs.Common.{◌≡◌, ℕ, ℤ, ◌+◌, ◌-◌, ◌*◌, ◌≤◌, Bool, true, false, List, [], ◌∷◌, ◌++◌, ◌==◌, ◌&&◌, nat_le, Some, refl, sym, ap, ◌∙◌, arith, inl, inr, subst}
+use Rattle.std.proofs.lemmas.Bool.{eqb-true}
 use Rattle.std.proofs.lemmas.Bool.Decides.{nat_tests}
 use Rattle.std.specs.List.{list_all}
-use Rattle.hall_symbol.specs.Grammar.{IsCount, IsNumber, IsWritten, IsOriginShift, signed_number}
-use Rattle.hall_symbol.specs.Parts.{◌>>=◌, sign_text}
+use Rattle.hall_symbol.specs.Grammar.{IsCount, IsNumber, IsWritten, IsOriginShift}
+use Rattle.hall_symbol.specs.Spelling.{sign_text}
 use Rattle.hall_symbol.specs.Words.{opening, closing}
-use Rattle.hall_symbol.specs.Reading.{sign_at, digit_in, at_most_twelve, count_in, number_in, number_at, is_byte, is_closed, written_at, shift_at, ends_parts}
-use Rattle.hall_symbol.proofs.PartsGrammar.{bind-some, some-value, chosen, sign_at-split, plain-word}
+use Rattle.hall_symbol.specs.PartReading.{sign_at}
+use Rattle.hall_symbol.specs.ShiftReading.{digit_in, at_most_twelve, count_in, number_in, number_at, is_byte, is_closed, written_at, shift_at}
+use Rattle.hall_symbol.specs.SymbolReading.{ends_parts}
+use Rattle.hall_symbol.proofs.Cases.{bind-some, chosen, some-value}
 use Rattle.hall_symbol.proofs.WordsGrammar.{is_plain, is_word}
+use Rattle.hall_symbol.proofs.PartFronts.{sign_at-split}
+use Rattle.hall_symbol.proofs.PartsGrammar.{plain-word}
 
 -- ---- numbers
 
@@ -87,13 +91,13 @@ number_in-IsNumber w z h =
     let sign : sign_at w ≡ (h.negative, h.digits) = ap sign_at h.text ∙ sign_at-digits h.negative h.digits h.count h.digits_are in
     rw (sign, count_in-IsCount h.digits h.count h.digits_are h.small) (ap Some (sym h.value))
 
-plain-digit : (n : ℕ) → n ≤ 9 → is_plain (48 + n) ≡ true
-plain-digit n small = grind (arith, nat_tests)
+plain-numeral : (n : ℕ) → n ≤ 9 → is_plain (48 + n) ≡ true
+plain-numeral n small = grind (arith, nat_tests)
 
 plain-count : (ds : List ℕ) (n : ℕ) → IsCount ds n → list_all is_plain ds ≡ true
 plain-count [] n h = absurd h
-plain-count (c ∷ []) n h = rw h.1 (ap (λ t. t && true) (plain-digit n h.0))
-plain-count (c ∷ d ∷ []) n (tens, ones, t, o, e, f, sum) = rw (e, f) (ap (λ s. s && (is_plain (48 + ones) && true)) (plain-digit tens t) ∙ ap (λ s. s && true) (plain-digit ones o))
+plain-count (c ∷ []) n h = rw h.1 (ap (λ t. t && true) (plain-numeral n h.0))
+plain-count (c ∷ d ∷ []) n (tens, ones, t, o, e, f, sum) = rw (e, f) (ap (λ s. s && (is_plain (48 + ones) && true)) (plain-numeral tens t) ∙ ap (λ s. s && true) (plain-numeral ones o))
 plain-count (c ∷ d ∷ e ∷ cs) n h = absurd h
 
 word-count : (b : Bool) (ds : List ℕ) (n : ℕ) → IsCount ds n → is_word (sign_text b ++ ds) ≡ true
@@ -128,6 +132,23 @@ is_closed-sound [] h = cc h
 is_closed-sound (w ∷ []) h = ap (λ v. v ∷ []) (is_byte-sound 41 w h)
 is_closed-sound (w ∷ v ∷ ws) h = cc h
 
+-- three numbers between brackets
+IsWritten-words : (ws a b c : List (List ℕ)) (p q r : List ℕ) (x y z : ℤ) (v : List ℤ) → ws ≡ p ∷ a → a ≡ q ∷ b → b ≡ r ∷ c → c ≡ closing ∷ []
+    → IsNumber p x → IsNumber q y → IsNumber r z → x ∷ y ∷ z ∷ [] ≡ v → IsWritten (opening ∷ ws) v
+IsWritten-words ws a b c p q r x y z v e f g h first second third value = record {
+  p = p;
+  q = q;
+  r = r;
+  x = x;
+  y = y;
+  z = z;
+  words_are = ap (λ us. opening ∷ us) (e ∙ ap (λ us. p ∷ us) (f ∙ ap (λ us. q ∷ us) (g ∙ ap (λ us. r ∷ us) h)));
+  first = first;
+  second = second;
+  third = third;
+  value = sym value;
+}
+
 written_at-sound : (ws : List (List ℕ)) (v : List ℤ) → written_at ws ≡ Some v → IsWritten (opening ∷ ws) v
 unfolding written_at
 written_at-sound ws v h =
@@ -138,19 +159,7 @@ written_at-sound ws v h =
     let y = number_at-sound p.0.1 q.0.0 q.0.1 q.1 in
     let z = number_at-sound q.0.1 r.0.0 r.0.1 r.1 in
     elim (chosen (is_closed r.0.1) _ _ _ r.2) [
-      | inl (closed, value) ↦ record {
-        p = x.0;
-        q = y.0;
-        r = z.0;
-        x = p.0.0;
-        y = q.0.0;
-        z = r.0.0;
-        words_are = ap (λ vs. opening ∷ vs) (x.1 ∙ ap (λ vs. x.0 ∷ vs) (y.1 ∙ ap (λ vs. y.0 ∷ vs) (z.1 ∙ ap (λ vs. z.0 ∷ vs) (is_closed-sound r.0.1 closed))));
-        first = x.2;
-        second = y.2;
-        third = z.2;
-        value = sym (some-value _ _ value);
-      }
+      | inl (closed, value) ↦ IsWritten-words ws p.0.1 q.0.1 r.0.1 x.0 y.0 z.0 p.0.0 q.0.0 r.0.0 v x.1 y.1 z.1 (is_closed-sound r.0.1 closed) x.2 y.2 z.2 (some-value _ _ value)
       | inr (_, value) ↦ cc value
     ]
 

@@ -2,23 +2,15 @@
 --
 -- AreWords-words: words of the grammar that are read of a text are its words
 -- words-AreWords: the words of a text are read of it
-use Rattle.std.proofs.Common.{◌≡◌, ℕ, Bool, true, false, List, [], ◌∷◌, ◌++◌, ◌⊎◌, ◌==◌, ◌&&◌, ◌||◌, not, length, refl, sym, ap, ◌∙◌, arith, inl, inr, subst, append_assoc, append-nil, cond}
+use Rattle.std.proofs.Common.{◌≡◌, ℕ, Bool, true, false, List, [], ◌∷◌, ◌++◌, ◌⊎◌, ◌==◌, ◌||◌, not, refl, sym, ap, ◌∙◌, inl, inr, subst, append-nil, cond}
 use Rattle.std.proofs.lemmas.Bool.{cases_Bool, eqb-true}
-use Rattle.std.proofs.lemmas.Bool.Decides.{nat_tests}
 use Rattle.std.specs.List.{list_all}
 use Rattle.hall_symbol.specs.Words.{is_blank, can_follow, after_blanks, before_blanks, trimmed, AreWords, opening}
-use Rattle.hall_symbol.specs.Reading.{words, ends_word, begins_word, with_front}
+use Rattle.hall_symbol.specs.WordReading.{words, ends_word, begins_word, with_front}
 use Rattle.hall_symbol.proofs.WordsLemmas.{words-after_blanks, words-stop, words-go, goes_on}
+use Rattle.hall_symbol.proofs.Cases.{and-first, and-second, not_or, not_true, or-false, or-true, or_false, or_true, true-false}
 
 -- ---- the words of a trimmed text
-
-pub and-first : (s t : Bool) → (s && t) ≡ true → s ≡ true
-and-first true t h = refl
-and-first false t h = cc h
-
-pub and-second : (s t : Bool) → (s && t) ≡ true → t ≡ true
-and-second true t h = h
-and-second false t h = cc h
 
 words-blank : (c : ℕ) (cs : List ℕ) → is_blank c ≡ true → words (c ∷ cs) ≡ words cs
 unfolding words
@@ -67,26 +59,6 @@ abbrev pub is_word : List ℕ → Bool
 is_word [] = false
 is_word (c ∷ []) = not (is_blank c)
 is_word (c ∷ d ∷ ds) = list_all is_plain (c ∷ d ∷ ds)
-
-not_or : (s t : Bool) → not (s || t) ≡ true → (s ≡ false) × (t ≡ false)
-not_or true t h = cc h
-not_or false true h = cc h
-not_or false false h = (refl, refl)
-
-not_true : (s : Bool) → not s ≡ true → s ≡ false
-not_true true h = cc h
-not_true false h = refl
-
-or_true : (s : Bool) → (s || true) ≡ true
-or_true true = refl
-or_true false = refl
-
-or_false : (s t : Bool) → s ≡ false → t ≡ false → (s || t) ≡ false
-or_false s t e f = rw (e, f) refl
-
-or-false : (s t : Bool) → (s || t) ≡ false → (s ≡ false) × (t ≡ false)
-or-false true t h = cc h
-or-false false t h = (refl, h)
 
 words-plain : (c : ℕ) (w rest : List ℕ) → list_all is_plain (c ∷ w) ≡ true → can_follow rest ≡ true → words (c ∷ (w ++ rest)) ≡ (c ∷ w) ∷ words rest
 words-plain c [] rest plain follow =
@@ -138,16 +110,9 @@ AreTokens-blank : (c : ℕ) (ws : List (List ℕ)) (cs : List ℕ) → is_blank 
 AreTokens-blank c [] cs blank h = rw blank h
 AreTokens-blank c (w ∷ ws) cs blank (blanks, rest, all, split, side, more) = (c ∷ blanks, rest, rw blank all, ap (λ t. c ∷ t) split, side, more)
 
-or-true : (s t : Bool) → (s || t) ≡ true → (s ≡ true) ⊎ (t ≡ true)
-or-true true t h = inl refl
-or-true false t h = inr h
-
 blanks-follow : (cs : List ℕ) → list_all is_blank cs ≡ true → can_follow cs ≡ true
 blanks-follow [] h = refl
 blanks-follow (c ∷ cs) h = ap (λ t. t || c == 41) (and-first (is_blank c) (list_all is_blank cs) h)
-
-true-false : false ≡ true → ⊥
-true-false h = cc h
 
 no_blanks : (cs blanks more : List ℕ) → begins_word cs ≡ true → list_all is_blank blanks ≡ true → cs ≡ blanks ++ more → cs ≡ more
 no_blanks cs [] more begins h e = e

@@ -6,13 +6,14 @@
 -- IsOriginShift words v: the words of an origin shift v in twelfths, or none
 -- IsHallSymbol text lattice ops: the text is a symbol of this lattice with these generators
 use Rattle.std.specs.Prelude.{◌≡◌, ℕ, ◌+◌, ◌*◌, ◌≤◌, ◌<◌, ℤ, pos, neg_ℤ, Bool, true, false, List, [], ◌∷◌, ◌++◌, map, length, Some, ◌⊎◌}
-use Rattle.std.specs.List.{AllPass, All}
+use Rattle.std.specs.List.{All}
 use Rattle.space_ops.specs.declared.lattice.Lattice.{Lattice}
 use Rattle.space_ops.specs.declared.lattice.Lattice.TheVariants.{P, A, B, C, I, R, F}
 use Rattle.space_ops.specs.declared.op.Op.{Op}
 use Rattle.hall_symbol.specs.declared.generator.Generator.{Generator}
 use Rattle.hall_symbol.specs.Operations.{op_at_origin, inversion_of}
-use Rattle.hall_symbol.specs.Parts.{Spelling, IsSpelling, text_of, part_of, sign_text, generators_of}
+use Rattle.hall_symbol.specs.Spelling.{Spelling, IsSpelling, text_of, part_of, sign_text}
+use Rattle.hall_symbol.specs.Generators.{generators_of}
 use Rattle.hall_symbol.specs.Words.{AreWords, trimmed, opening, closing}
 
 -- the letter of a lattice

@@ -1,7 +1,12 @@
 pub mod Words
 pub mod Rotations
 pub mod RotationLaws
-pub mod Parts
+pub mod Steps
+pub mod Spelling
+pub mod Generators
 pub mod Operations
 pub mod Grammar
-pub mod Reading
+pub mod WordReading
+pub mod PartReading
+pub mod ShiftReading
+pub mod SymbolReading

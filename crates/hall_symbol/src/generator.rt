@@ -1,6 +1,6 @@
 // The rotation and the translation that a part names behind the parts before it.
 ghost use Rattle.std.specs.Prelude.{◌≡◌, ◌+◌, ◌<◌, ◌≤◌, ◌∷◌, [], map};
-ghost use Rattle.hall_symbol.specs.Parts as parts;
+ghost use Rattle.hall_symbol.specs.Generators as generators;
 
 use crate::part::Part;
 use crate::rotation::{
@@ -18,7 +18,7 @@ pub struct Generator {
 }
 
 fn second_rotation(first: Order) -> Option<Rotation>
-    ensures { result ≡ parts.second_rotation first }
+    ensures { result ≡ generators.second_rotation first }
 {
     match first {
         Order::One => None,
@@ -28,7 +28,7 @@ fn second_rotation(first: Order) -> Option<Rotation>
 }
 
 fn default_rotation(before: &[Generator], order: Order) -> Option<Rotation>
-    ensures { result ≡ parts.default_rotation before.now order }
+    ensures { result ≡ generators.default_rotation before.now order }
 {
     match (order, before) {
         (Order::One, _) => Some(Rotation::One),
@@ -43,7 +43,7 @@ fn default_rotation(before: &[Generator], order: Order) -> Option<Rotation>
 }
 
 fn prime_behind(last: Option<CellAxis>) -> Option<Rotation>
-    ensures { result ≡ parts.prime_behind last }
+    ensures { result ≡ generators.prime_behind last }
 {
     match last? {
         CellAxis::X => Some(Rotation::TwoPrimeAfterX),
@@ -53,7 +53,7 @@ fn prime_behind(last: Option<CellAxis>) -> Option<Rotation>
 }
 
 fn double_prime_behind(last: Option<CellAxis>) -> Option<Rotation>
-    ensures { result ≡ parts.double_prime_behind last }
+    ensures { result ≡ generators.double_prime_behind last }
 {
     match last? {
         CellAxis::X => Some(Rotation::TwoDoublePrimeAfterX),
@@ -64,14 +64,14 @@ fn double_prime_behind(last: Option<CellAxis>) -> Option<Rotation>
 
 // The axis of the cell that the last part is about.
 fn last_axis(before: &[Generator]) -> Option<CellAxis>
-    ensures { result ≡ parts.last_axis before.now }
+    ensures { result ≡ generators.last_axis before.now }
 {
     let last = before.last()?;
     rotation_axis(last.rotation)
 }
 
 fn named_rotation(last: Option<CellAxis>, axis: Axis, order: Order) -> Option<Rotation>
-    ensures { result ≡ parts.named_rotation last axis order }
+    ensures { result ≡ generators.named_rotation last axis order }
 {
     match (axis, order) {
         (Axis::Along(CellAxis::X), Order::Two) => Some(Rotation::TwoX),
@@ -90,7 +90,7 @@ fn named_rotation(last: Option<CellAxis>, axis: Axis, order: Order) -> Option<Ro
 }
 
 fn rotation_of(before: &[Generator], order: Order, axis: Option<Axis>) -> Option<Rotation>
-    ensures { result ≡ parts.rotation_of before.now order axis }
+    ensures { result ≡ generators.rotation_of before.now order axis }
 {
     match axis {
         None => default_rotation(before, order),
@@ -99,7 +99,7 @@ fn rotation_of(before: &[Generator], order: Order, axis: Option<Axis>) -> Option
 }
 
 fn along(axis: CellAxis, twelfths: u16) -> [u16; 3]
-    ensures { result ≡ parts.along axis twelfths }
+    ensures { result ≡ generators.along axis twelfths }
 {
     match axis {
         CellAxis::X => [twelfths, 0, 0],
@@ -110,7 +110,7 @@ fn along(axis: CellAxis, twelfths: u16) -> [u16; 3]
 
 // The translation of a digit, where it may stand.
 fn screw_of(rotation: Rotation, order: Order, digit: u8) -> Option<[u16; 3]>
-    ensures { result ≡ parts.screw_of rotation order digit }
+    ensures { result ≡ generators.screw_of rotation order digit }
 {
     if digit == 0 {
         return Some([0; 3]);
@@ -127,7 +127,7 @@ fn screw_of(rotation: Rotation, order: Order, digit: u8) -> Option<[u16; 3]>
 
 /// The generator of a part behind the parts before it, where its axis and its digit may stand there.
 pub fn generator_of(before: &[Generator], part: Part) -> Option<Generator>
-    ensures { result ≡ parts.generator_of before.now part }
+    ensures { result ≡ generators.generator_of before.now part }
 {
     let rotation = rotation_of(before, part.order, part.axis)?;
     let screw = screw_of(rotation, part.order, part.digit)?;

@@ -3,13 +3,14 @@ ghost use Rattle.std.specs.Prelude.{◌≡◌, ◌≤◌, ◌+◌, ◌*◌, ℤ,
 ghost use Rattle.space_ops.specs.Op.{IsWithin, IsShiftWithin};
 ghost use Rattle.hall_symbol.specs.Grammar.{signed_number};
 ghost use Rattle.hall_symbol.specs.Operations as operations;
-ghost use Rattle.hall_symbol.specs.Reading as reading;
+ghost use Rattle.hall_symbol.specs.ShiftReading as shift_reading;
+ghost use Rattle.hall_symbol.specs.WordReading as word_reading;
 
 use crate::part::sign_at;
 use crate::words::next_word;
 
 fn digit_in(byte: u8) -> Option<u8>
-    ensures value { result ≡ reading.digit_in byte }
+    ensures value { result ≡ shift_reading.digit_in byte }
     ensures small { IfSome result (λ d. d ≤ 9) }
 {
     if b'0' <= byte && byte <= b'9' {
@@ -20,16 +21,16 @@ fn digit_in(byte: u8) -> Option<u8>
 }
 
 fn at_most_twelve(count: u8) -> Option<u8>
-    ensures value { result ≡ reading.at_most_twelve count }
+    ensures value { result ≡ shift_reading.at_most_twelve count }
     ensures small { IfSome result (λ n. n ≤ 12) }
 {
     if count <= 12 { Some(count) } else { None }
 }
 
 // One or two digits of at most 12.
-#[tactic(auto, unfolding(crate::specs::Reading::count_in))]
+#[tactic(auto, unfolding(crate::specs::ShiftReading::count_in))]
 fn count_in(text: &[u8]) -> Option<u8>
-    ensures value { result ≡ reading.count_in text.now }
+    ensures value { result ≡ shift_reading.count_in text.now }
     ensures small { IfSome result (λ n. n ≤ 12) }
 {
     match text {
@@ -53,9 +54,9 @@ fn signed_number(negative: bool, count: u8) -> i32
 }
 
 // An optional `-` and one or two digits of at most 12.
-#[tactic(auto, unfolding(crate::specs::Reading::number_in))]
+#[tactic(auto, unfolding(crate::specs::ShiftReading::number_in))]
 fn number_in(word: &[u8]) -> Option<i32>
-    ensures value { result ≡ reading.number_in word.now }
+    ensures value { result ≡ shift_reading.number_in word.now }
     ensures within { IfSome result (λ z. IsWithin 12 z) }
 {
     let (negative, rest) = sign_at(word);
@@ -63,9 +64,9 @@ fn number_in(word: &[u8]) -> Option<i32>
     Some(signed_number(negative, count))
 }
 
-#[tactic(auto, unfolding(crate::specs::Reading::number_at))]
+#[tactic(auto, unfolding(crate::specs::ShiftReading::number_at))]
 fn number_at(text: &[u8]) -> Option<(i32, &[u8])>
-    ensures value { option_map (λ p. (p.0, reading.words p.1.now)) result ≡ reading.number_at (reading.words text.now) }
+    ensures value { option_map (λ p. (p.0, word_reading.words p.1.now)) result ≡ shift_reading.number_at (word_reading.words text.now) }
     ensures within { IfSome result (λ p. IsWithin 12 p.0) }
 {
     let (word, rest) = next_word(text)?;
@@ -74,7 +75,7 @@ fn number_at(text: &[u8]) -> Option<(i32, &[u8])>
 }
 
 pub fn is_byte(byte: u8, word: &[u8]) -> bool
-    ensures { result ≡ reading.is_byte byte word.now }
+    ensures { result ≡ shift_reading.is_byte byte word.now }
 {
     match word {
         [only] => *only == byte,
@@ -84,7 +85,7 @@ pub fn is_byte(byte: u8, word: &[u8]) -> bool
 
 // Whether `)` is the one word that is left.
 fn is_closed(text: &[u8]) -> bool
-    ensures { result ≡ reading.is_closed (reading.words text.now) }
+    ensures { result ≡ shift_reading.is_closed (word_reading.words text.now) }
 {
     match next_word(text) {
         None => false,
@@ -92,9 +93,9 @@ fn is_closed(text: &[u8]) -> bool
     }
 }
 
-#[tactic(auto, unfolding(crate::specs::Reading::written_at))]
+#[tactic(auto, unfolding(crate::specs::ShiftReading::written_at))]
 fn written_at(text: &[u8]) -> Option<[i32; 3]>
-    ensures value { result ≡ reading.written_at (reading.words text.now) }
+    ensures value { result ≡ shift_reading.written_at (word_reading.words text.now) }
     ensures within { IfSome result (λ v. IsShiftWithin 12 v) }
 {
     let (p, rest) = number_at(text)?;
@@ -108,9 +109,9 @@ fn written_at(text: &[u8]) -> Option<[i32; 3]>
 }
 
 /// The origin shift that ends a symbol, in twelfths: zero where no word is left.
-#[tactic(auto, unfolding(crate::specs::Reading::shift_at))]
+#[tactic(auto, unfolding(crate::specs::ShiftReading::shift_at))]
 pub fn shift_at(text: &[u8]) -> Option<[i32; 3]>
-    ensures value { result ≡ reading.shift_at (reading.words text.now) }
+    ensures value { result ≡ shift_reading.shift_at (word_reading.words text.now) }
     ensures within { IfSome result (λ v. IsShiftWithin 12 v) }
 {
     let Some((word, rest)) = next_word(text) else {

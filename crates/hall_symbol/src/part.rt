@@ -1,7 +1,7 @@
 // The parts of a Hall symbol as they are written.
 ghost use Rattle.std.specs.Prelude.{◌≡◌, ◌≤◌, ◌∷◌, [], length, option_map, IfSome};
-ghost use Rattle.hall_symbol.specs.Parts.{is_letter, letter_x, letter_y, letter_z};
-ghost use Rattle.hall_symbol.specs.Reading as reading;
+ghost use Rattle.hall_symbol.specs.Spelling.{is_letter, letter_x, letter_y, letter_z};
+ghost use Rattle.hall_symbol.specs.PartReading as part_reading;
 
 use crate::rotation::{Axis, CellAxis, Order};
 
@@ -18,7 +18,7 @@ pub struct Part {
 
 /// Whether `-` stands first, and what stands behind it.
 pub fn sign_at(text: &[u8]) -> (bool, &[u8])
-    ensures value { (result.0, result.1.now) ≡ reading.sign_at text.now }
+    ensures value { (result.0, result.1.now) ≡ part_reading.sign_at text.now }
     ensures shorter { length result.1.now ≤ length text.now }
 {
     match text {
@@ -28,7 +28,7 @@ pub fn sign_at(text: &[u8]) -> (bool, &[u8])
 }
 
 fn order_of_byte(byte: u8) -> Option<Order>
-    ensures { result ≡ reading.order_of_byte byte }
+    ensures { result ≡ part_reading.order_of_byte byte }
 {
     match byte {
         b'1' => Some(Order::One),
@@ -40,9 +40,9 @@ fn order_of_byte(byte: u8) -> Option<Order>
     }
 }
 
-#[tactic(auto, unfolding(crate::specs::Reading::order_at))]
+#[tactic(auto, unfolding(crate::specs::PartReading::order_at))]
 fn order_at(text: &[u8]) -> Option<(Order, &[u8])>
-    ensures value { option_map (λ p. (p.0, p.1.now)) result ≡ reading.order_at text.now }
+    ensures value { option_map (λ p. (p.0, p.1.now)) result ≡ part_reading.order_at text.now }
     ensures shorter { IfSome result (λ p. length p.1.now ≤ length text.now) }
 {
     match text {
@@ -51,9 +51,9 @@ fn order_at(text: &[u8]) -> Option<(Order, &[u8])>
     }
 }
 
-#[tactic(auto, unfolding(crate::specs::Reading::digit_at))]
+#[tactic(auto, unfolding(crate::specs::PartReading::digit_at))]
 fn digit_at(text: &[u8]) -> (u8, &[u8])
-    ensures value { (result.0, result.1.now) ≡ reading.digit_at text.now }
+    ensures value { (result.0, result.1.now) ≡ part_reading.digit_at text.now }
     ensures shorter { length result.1.now ≤ length text.now }
 {
     match text {
@@ -63,7 +63,7 @@ fn digit_at(text: &[u8]) -> (u8, &[u8])
 }
 
 fn axis_of_byte(byte: u8) -> Option<Axis>
-    ensures { result ≡ reading.axis_of_byte byte }
+    ensures { result ≡ part_reading.axis_of_byte byte }
 {
     match byte {
         b'x' => Some(Axis::Along(CellAxis::X)),
@@ -76,9 +76,9 @@ fn axis_of_byte(byte: u8) -> Option<Axis>
     }
 }
 
-#[tactic(auto, unfolding(crate::specs::Reading::axis_at))]
+#[tactic(auto, unfolding(crate::specs::PartReading::axis_at))]
 fn axis_at(text: &[u8]) -> (Option<Axis>, &[u8])
-    ensures value { (result.0, result.1.now) ≡ reading.axis_at text.now }
+    ensures value { (result.0, result.1.now) ≡ part_reading.axis_at text.now }
     ensures shorter { length result.1.now ≤ length text.now }
 {
     match text {
@@ -114,10 +114,10 @@ fn letter_shift(letter: u8) -> [u16; 3]
 }
 
 // The sum of the letters' translations, where all bytes are letters.
-#[tactic(auto, unfolding(crate::specs::Reading::letters_of))]
+#[tactic(auto, unfolding(crate::specs::PartReading::letters_of))]
 fn letters_of(text: &[u8]) -> Option<[u16; 3]>
     requires { length text.now ≤ 80 }
-    ensures { result ≡ reading.letters_of text.now }
+    ensures { result ≡ part_reading.letters_of text.now }
 {
     let mut sum = [0; 3];
     'letters: for letter in text {
@@ -132,7 +132,7 @@ fn letters_of(text: &[u8]) -> Option<[u16; 3]>
 
 // The digit before or behind the axis, where not both stand.
 fn one_digit(front: u8, back: u8) -> Option<u8>
-    ensures { result ≡ reading.one_digit front back }
+    ensures { result ≡ part_reading.one_digit front back }
 {
     if front == 0 {
         Some(back)
@@ -144,10 +144,10 @@ fn one_digit(front: u8, back: u8) -> Option<u8>
 }
 
 // The part from its axis on.
-#[tactic(auto, unfolding(crate::specs::Reading::part_from))]
+#[tactic(auto, unfolding(crate::specs::PartReading::part_from))]
 fn part_from(negated: bool, order: Order, front: u8, text: &[u8]) -> Option<Part>
     requires { length text.now ≤ 80 }
-    ensures { result ≡ reading.part_from negated order front text.now }
+    ensures { result ≡ part_reading.part_from negated order front text.now }
 {
     let (axis, rest) = axis_at(text);
     let (back, rest) = digit_at(rest);
@@ -163,10 +163,10 @@ fn part_from(negated: bool, order: Order, front: u8, text: &[u8]) -> Option<Part
 }
 
 /// The part that a word of at most 80 bytes is, where it is one.
-#[tactic(auto, unfolding(crate::specs::Reading::part_in))]
+#[tactic(auto, unfolding(crate::specs::PartReading::part_in))]
 pub fn part_in(word: &[u8]) -> Option<Part>
     requires { length word.now ≤ 80 }
-    ensures { result ≡ reading.part_in word.now }
+    ensures { result ≡ part_reading.part_in word.now }
 {
     let (negated, rest) = sign_at(word);
     let (order, rest) = order_at(rest)?;

@@ -7,7 +7,9 @@ ghost use Rattle.space_ops.specs.declared.lattice.Lattice.{Lattice};
 ghost use Rattle.space_ops.specs.declared.op.Op.{Op};
 ghost use Rattle.hall_symbol.specs.Grammar.{IsHallSymbol};
 ghost use Rattle.hall_symbol.specs.Operations as operations;
-ghost use Rattle.hall_symbol.specs.Reading as reading;
+ghost use Rattle.hall_symbol.specs.ShiftReading as shift_reading;
+ghost use Rattle.hall_symbol.specs.SymbolReading as symbol_reading;
+ghost use Rattle.hall_symbol.specs.WordReading as word_reading;
 
 use crate::generator::{Generator, generator_of};
 use crate::operation::op_at_origin;
@@ -38,7 +40,7 @@ pub struct Generators {
 }
 
 fn lattice_of_byte(byte: u8) -> Option<Lattice>
-    ensures { result ≡ reading.lattice_of_byte byte }
+    ensures { result ≡ symbol_reading.lattice_of_byte byte }
 {
     match byte {
         b'P' => Some(Lattice::P),
@@ -52,9 +54,9 @@ fn lattice_of_byte(byte: u8) -> Option<Lattice>
     }
 }
 
-#[tactic(auto, unfolding(crate::specs::Reading::lattice_in))]
+#[tactic(auto, unfolding(crate::specs::SymbolReading::lattice_in))]
 fn lattice_in(word: &[u8]) -> Option<Lattice>
-    ensures { result ≡ reading.lattice_in word.now }
+    ensures { result ≡ symbol_reading.lattice_in word.now }
 {
     match word {
         [letter] => lattice_of_byte(*letter),
@@ -63,9 +65,9 @@ fn lattice_in(word: &[u8]) -> Option<Lattice>
 }
 
 // Whether the symbol has the inversion, its lattice, and what stands behind.
-#[tactic(auto, unfolding(crate::specs::Reading::head_at))]
+#[tactic(auto, unfolding(crate::specs::SymbolReading::head_at))]
 fn head_at(text: &[u8]) -> Option<(bool, Lattice, &[u8])>
-    ensures value { option_map (λ h. (h.0, h.1, reading.words h.2.now)) result ≡ reading.head_at (reading.words text.now) }
+    ensures value { option_map (λ h. (h.0, h.1, word_reading.words h.2.now)) result ≡ symbol_reading.head_at (word_reading.words text.now) }
     ensures shorter { IfSome result (λ h. length h.2.now ≤ length text.now) }
 {
     let (word, rest) = next_word(text)?;
@@ -87,9 +89,9 @@ fn inversion() -> Generator
 
 // The word of the next part and what stands behind it, where a part stands next.
 fn next_part(text: &[u8]) -> Option<(&[u8], &[u8])>
-    ensures none { IfNone result (reading.ends_parts (reading.words text.now) ≡ true) }
-    ensures word { IfSome result (λ p. reading.words text.now ≡ p.0.now ∷ reading.words p.1.now) }
-    ensures other { IfSome result (λ p. reading.is_byte 40 p.0.now ≡ false) }
+    ensures none { IfNone result (symbol_reading.ends_parts (word_reading.words text.now) ≡ true) }
+    ensures word { IfSome result (λ p. word_reading.words text.now ≡ p.0.now ∷ word_reading.words p.1.now) }
+    ensures other { IfSome result (λ p. shift_reading.is_byte 40 p.0.now ≡ false) }
     ensures shorter { IfSome result (λ p. length p.0.now + length p.1.now ≤ length text.now) }
     ensures some { IfSome result (λ p. 0 < length p.0.now) }
 {
@@ -101,10 +103,10 @@ fn next_part(text: &[u8]) -> Option<(&[u8], &[u8])>
     }
 }
 
-#[tactic(auto, unfolding(crate::specs::Reading::generator_in))]
+#[tactic(auto, unfolding(crate::specs::SymbolReading::generator_in))]
 fn generator_in(before: &[Generator], word: &[u8]) -> Option<Generator>
     requires { length word.now ≤ 80 }
-    ensures value { result ≡ reading.generator_in before.now word.now }
+    ensures value { result ≡ symbol_reading.generator_in before.now word.now }
     ensures room { IfSome result (λ g. length before.now < 4) }
 {
     if before.len() < MAX_PARTS {
@@ -118,7 +120,7 @@ fn generator_in(before: &[Generator], word: &[u8]) -> Option<Generator>
 // The generators of the parts, and what stands behind them.
 fn parts_at(text: &[u8]) -> Option<(ArrayVec<Generator, 4>, &[u8])>
     requires { length text.now ≤ 80 }
-    ensures value { option_map (λ p. (p.0.items, reading.words p.1.now)) result ≡ reading.parts_at [] (reading.words text.now) }
+    ensures value { option_map (λ p. (p.0.items, word_reading.words p.1.now)) result ≡ symbol_reading.parts_at [] (word_reading.words text.now) }
     ensures few { IfSome result (λ p. array_vec_len p.0 ≤ 4) }
 {
     let mut generators: ArrayVec<Generator, 4> = ArrayVec::new();
@@ -155,10 +157,10 @@ fn ops_at(inverted: bool, generators: &[Generator], origin: [i32; 3]) -> ArrayVe
     ops
 }
 
-#[tactic(auto, unfolding(crate::specs::Reading::symbol_at))]
+#[tactic(auto, unfolding(crate::specs::SymbolReading::symbol_at))]
 fn symbol_at(text: &[u8]) -> Option<Generators>
     requires { length text.now ≤ 80 }
-    ensures { option_map (λ g. (g.lattice, g.ops.items)) result ≡ reading.symbol_at (reading.words text.now) }
+    ensures { option_map (λ g. (g.lattice, g.ops.items)) result ≡ symbol_reading.symbol_at (word_reading.words text.now) }
 {
     let (inverted, lattice, rest) = head_at(text)?;
     let (generators, rest) = parts_at(rest)?;
@@ -170,9 +172,9 @@ fn symbol_at(text: &[u8]) -> Option<Generators>
     Some(Generators { lattice, ops })
 }
 
-#[tactic(auto, unfolding(crate::specs::Reading::symbol_of))]
+#[tactic(auto, unfolding(crate::specs::SymbolReading::symbol_of))]
 fn symbol_of(text: &[u8]) -> Option<Generators>
-    ensures { option_map (λ g. (g.lattice, g.ops.items)) result ≡ reading.symbol_of text.now }
+    ensures { option_map (λ g. (g.lattice, g.ops.items)) result ≡ symbol_reading.symbol_of text.now }
 {
     let text = trimmed(text);
     if text.len() <= MAX_BYTES {

@@ -1,7 +1,7 @@
 // Blanks and the words of a text.
 ghost use Rattle.std.specs.Prelude.{◌≡◌, ℕ, ◌+◌, ◌<◌, ◌≤◌, ◌∷◌, [], true, length, take, drop, MatchOption, IfSome};
 ghost use Rattle.hall_symbol.specs.Words.{is_blank, can_follow, after_blanks, before_blanks, trimmed};
-ghost use Rattle.hall_symbol.specs.Reading.{words, ends_word, begins_word};
+ghost use Rattle.hall_symbol.specs.WordReading.{words, ends_word, begins_word};
 
 fn is_blank(byte: u8) -> bool
     ensures { result ≡ is_blank byte }

@@ -1,6 +1,6 @@
-use Rattle.std.proofs.Common.{◌≡◌, ◌*◌, ◌≤◌, ◌∷◌, [], take, true, length, sum_by}
+use Rattle.std.proofs.Common.{◌≡◌, ◌*◌, ◌≤◌, take, true, sum_by}
 use Rattle.std.specs.List.{list_all}
-use Rattle.hall_symbol.specs.Parts.{is_letter, letters_shift, letter_x, letter_y, letter_z}
+use Rattle.hall_symbol.specs.Spelling.{is_letter, letters_shift, letter_x, letter_y, letter_z}
 use Rattle.hall_symbol.proofs.part.letters_of.Given as goal
 
 abbrev pub invariant-letters : goal.invariant-letters

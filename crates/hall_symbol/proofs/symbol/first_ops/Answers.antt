@@ -1,5 +1,5 @@
-use Rattle.std.proofs.Common.{◌≡◌, ap, ◌∙◌, sym, [], ◌∷◌, ◌++◌, map}
-use Rattle.hall_symbol.specs.Operations.{op_at_origin, inversion_of, inversion}
+use Rattle.std.proofs.Common.{ap, ◌∙◌, sym, [], ◌∷◌, ◌++◌, map}
+use Rattle.hall_symbol.specs.Operations.{op_at_origin, inversion_of}
 use Rattle.hall_symbol.proofs.symbol.first_ops.Goals as goal
 
 pub returns-then-inverted : goal.returns-then-inverted

@@ -1,5 +1,6 @@
 use Rattle.std.proofs.Common.{◌≡◌, ◌≤◌, [], length}
-use Rattle.hall_symbol.specs.Reading.{parts_at, words}
+use Rattle.hall_symbol.specs.SymbolReading.{parts_at}
+use Rattle.hall_symbol.specs.WordReading.{words}
 use Rattle.hall_symbol.proofs.symbol.parts_at.Given as goal
 
 abbrev pub invariant-parts : goal.invariant-parts

@@ -1,6 +1,4 @@
 use Rattle.std.proofs.Common.{◌≡◌, ap, ◌∙◌, sym, Some, None, option_map}
-use Rattle.space_ops.specs.declared.lattice.Lattice.{Lattice}
-use Rattle.space_ops.specs.declared.op.Op.{Op}
 use Rattle.hall_symbol.proofs.FitLemmas.{IsFit-IsHallSymbol}
 use Rattle.hall_symbol.proofs.SymbolGrammar.{symbol_of-sound, symbol_of-IsHallSymbol, IsHallSymbol-unique}
 use Rattle.hall_symbol.proofs.symbol.read.Goals as goal

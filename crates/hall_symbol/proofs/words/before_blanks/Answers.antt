@@ -1,5 +1,4 @@
-use Rattle.std.proofs.Common.{◌≡◌, ◌+◌, ◌-◌, take, arith, ap, sym, ◌∙◌, subst, refl}
-use Rattle.std.proofs.lemmas.List.{take_all}
+use Rattle.std.proofs.Common.{◌≡◌, ◌+◌, ◌-◌, take, arith, ap, sym, ◌∙◌}
 use Rattle.hall_symbol.specs.Words.{before_blanks}
 use Rattle.hall_symbol.proofs.WordsLemmas.{before_blanks-take, before_blanks-kept}
 use Rattle.hall_symbol.proofs.words.before_blanks.Goals as goal

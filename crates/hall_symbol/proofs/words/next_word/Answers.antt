@@ -1,6 +1,6 @@
-use Rattle.std.proofs.Common.{◌≡◌, ◌<◌, ◌∷◌, length, [], ◌∙◌, ap, sym, arith, subst}
+use Rattle.std.proofs.Common.{◌≡◌, ◌<◌, length, ◌∙◌, ap, sym, arith, subst}
 use Rattle.std.proofs.lemmas.Bool.Decides.{nat_tests}
-use Rattle.hall_symbol.specs.Reading.{words, begins_word}
+use Rattle.hall_symbol.specs.WordReading.{words, begins_word}
 use Rattle.hall_symbol.proofs.WordsLemmas.{words-after_blanks, begins_word-after_blanks, words-none}
 use Rattle.hall_symbol.proofs.words.next_word.Goals as goal
 

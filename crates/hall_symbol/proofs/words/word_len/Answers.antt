@@ -1,5 +1,5 @@
 use Rattle.std.proofs.Common.{ap, sym, ◌∙◌}
-use Rattle.hall_symbol.specs.Reading.{ends_word}
+use Rattle.hall_symbol.specs.WordReading.{ends_word}
 use Rattle.hall_symbol.proofs.WordsLemmas.{GoesOn-more, GoesOn-ends, with_front-none, begins-some, whole_end}
 use Rattle.hall_symbol.proofs.words.word_len.Goals as goal
 

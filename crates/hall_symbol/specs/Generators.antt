@@ -1,13 +1,10 @@
--- The parts of a Hall symbol: how they are spelled, and which rotation and translation they name.
+-- Which rotation and translation a part names behind the parts before it.
 --
--- Spelling, text_of s, IsSpelling s: a part as it is written
--- part_of s: what is written, the letters added up
--- rotation_of before order axis: the rotation that N and the axis name behind the parts before
--- screw_of rotation order digit: the translation of the digit
+-- rotation_of before order axis: the rotation of N and the axis, where this axis may stand there
+-- screw_of rotation order digit: the translation of the digit, where it may stand
 -- generator_of before part: the generator of a part
 -- generators_of before parts: those of several parts
-use Rattle.std.specs.Prelude.{◌≡◌, ℕ, zero, suc, ◌+◌, ◌*◌, ◌/◌, ◌≤◌, Bool, true, false, ◌==◌, ◌||◌, nat_lt, if◌then◌else◌, List, [], ◌∷◌, ◌++◌, Option, Some, None, option_and_then, ◌⊎◌, sum_by, slice_get, length, ◌-◌}
-use Rattle.std.specs.List.{list_all}
+use Rattle.std.specs.Prelude.{ℕ, ◌*◌, ◌/◌, ◌==◌, nat_lt, if◌then◌else◌, List, [], ◌∷◌, ◌++◌, Option, Some, None, slice_get, length, ◌-◌}
 use Rattle.hall_symbol.specs.declared.rotation.Axis.{Axis}
 use Rattle.hall_symbol.specs.declared.rotation.Axis.TheVariants.{Along, Prime, DoublePrime, Star}
 use Rattle.hall_symbol.specs.declared.rotation.CellAxis.{CellAxis}
@@ -19,81 +16,7 @@ use Rattle.hall_symbol.specs.declared.rotation.Rotation.TheVariants.{One, TwoZ, 
 use Rattle.hall_symbol.specs.declared.part.Part.{Part}
 use Rattle.hall_symbol.specs.declared.generator.Generator.{Generator}
 use Rattle.hall_symbol.specs.Rotations.{value_of, axis_of, order_of}
-
--- a step that may fail, and then another
-infixl 10 ◌>>=◌
-abbrev pub ◌>>=◌ : {A B : Type 0} → Option A → (A → Option B) → Option B
-o >>= f = option_and_then f o
-
--- `-`, where it stands
-abbrev pub sign_text : Bool → List ℕ
-sign_text true = 45 ∷ []
-sign_text false = []
-
--- the byte of N
-abbrev pub order_byte : Order → ℕ
-order_byte n = 48 + value_of n
-
--- a digit other than 0, or nothing
-abbrev pub digit_text : ℕ → List ℕ
-digit_text zero = []
-digit_text (suc d) = (49 + d) ∷ []
-
--- `x`, `y`, `z`, `'`, `"` and `*`
-abbrev pub axis_byte : Axis → ℕ
-axis_byte (Along X) = 120
-axis_byte (Along Y) = 121
-axis_byte (Along Z) = 122
-axis_byte Prime = 39
-axis_byte DoublePrime = 34
-axis_byte Star = 42
-
-abbrev pub axis_text : Option Axis → List ℕ
-axis_text None = []
-axis_text (Some a) = axis_byte a ∷ []
-
--- `a`, `b`, `c`, `n`, `u`, `v`, `w` and `d`
-abbrev pub is_letter : ℕ → Bool
-is_letter c = c == 97 || (c == 98 || (c == 99 || (c == 110 || (c == 117 || (c == 118 || (c == 119 || c == 100))))))
-
--- Twelfths along a: a half for `a` and `n`, a quarter for `u` and `d`.
-abbrev pub letter_x : ℕ → ℕ
-letter_x c = if c == 97 || c == 110 then 6 else (if c == 117 || c == 100 then 3 else 0)
-
--- Twelfths along b: a half for `b` and `n`, a quarter for `v` and `d`.
-abbrev pub letter_y : ℕ → ℕ
-letter_y c = if c == 98 || c == 110 then 6 else (if c == 118 || c == 100 then 3 else 0)
-
--- Twelfths along c: a half for `c` and `n`, a quarter for `w` and `d`.
-abbrev pub letter_z : ℕ → ℕ
-letter_z c = if c == 99 || c == 110 then 6 else (if c == 119 || c == 100 then 3 else 0)
-
--- the sum of the letters' translations
-abbrev pub letters_shift : List ℕ → List ℕ
-letters_shift letters = sum_by letter_x letters ∷ sum_by letter_y letters ∷ sum_by letter_z letters ∷ []
-
--- a part as it is written: the digit before or behind the axis is 0 where none stands there
-pub record Spelling : Type 0 where
-  pub negated : Bool
-  pub order : Order
-  pub front : ℕ
-  pub axis : Option Axis
-  pub back : ℕ
-  pub letters : List ℕ
-
--- [-] N [DIGIT] [AXIS] [DIGIT] {LETTER}
-abbrev pub text_of : Spelling → List ℕ
-text_of s = sign_text s.negated ++ (order_byte s.order ∷ (digit_text s.front ++ (axis_text s.axis ++ (digit_text s.back ++ s.letters))))
-
--- at most one digit stands, and the letters are letters
-pub record IsSpelling (s : Spelling) : Type 0 where
-  pub front : s.front ≤ 9
-  pub back : s.back ≤ 9
-  pub one_digit : (s.front ≡ 0) ⊎ (s.back ≡ 0)
-  pub letters : list_all is_letter s.letters ≡ true
-
-abbrev pub part_of : Spelling → Part
-part_of s = record { negated = s.negated; order = s.order; digit = s.front + s.back; axis = s.axis; letters = letters_shift s.letters }
+use Rattle.hall_symbol.specs.Steps.{◌>>=◌}
 
 -- The default axis of a second part with N 2: x behind N 2 or 4, a-b behind N 3 or 6.
 abbrev pub second_rotation : Order → Option Rotation
