@@ -3,7 +3,6 @@
 -- signed negated rot: R or -R
 -- op_at_origin v generator: {R | t + v - R v}, its translation modulo 1
 -- inversion: {-E|0}
--- IsFit op: what a group can be closed from: entries from -3 to 3, determinant 1 or -1, a translation from 0 to 11
 use Rattle.std.specs.Prelude.{ℕ, ◌+◌, ℤ, pos, ◌+ℤ◌, ◌-ℤ◌, ◌≤ℤ◌, neg_ℤ, Bool, true, false, List, [], ◌∷◌, slice_index_or}
 use Rattle.std.specs.Int.{int_rem_euclid}
 use Rattle.space_ops.specs.declared.op.Op.{Op}
@@ -48,18 +47,6 @@ op_at_origin v g = record {
       ∷ coordinate_at (row_at (generator_rows g) 2) (shift_along g 2) (number_at v 2) v
       ∷ [];
 }
-
--- from 0 to 11 twelfths
-abbrev pub IsReduced : ℤ → Type 0
-IsReduced t = (pos 0 ≤ℤ t) × (t ≤ℤ pos 11)
-
--- what a group can be closed from
-pub record IsFit (op : Op) : Type 0 where
-  pub small : IsSmallRotation op.rot
-  pub unimodular : IsUnimodular (matrix_of op.rot)
-  pub x : IsReduced (number_at op.shift 0)
-  pub y : IsReduced (number_at op.shift 1)
-  pub z : IsReduced (number_at op.shift 2)
 
 -- {-E|0}
 abbrev pub inversion : Generator

@@ -5,6 +5,7 @@ ghost use Rattle.space_ops.specs.Op.{IsShiftWithin};
 ghost use Rattle.std.specs.List.{All};
 ghost use Rattle.space_ops.specs.declared.lattice.Lattice.{Lattice};
 ghost use Rattle.space_ops.specs.declared.op.Op.{Op};
+ghost use Rattle.space_ops.specs.Group.{AreGenerators};
 ghost use Rattle.hall_symbol.specs.Grammar.{IsHallSymbol};
 ghost use Rattle.hall_symbol.specs.Operations as operations;
 ghost use Rattle.hall_symbol.specs.ShiftReading as shift_reading;
@@ -194,9 +195,8 @@ pub fn read(text: &[u8]) -> Result<Generators, BadHall>
         → (g.lattice ≡ lattice) × (g.ops.items ≡ ops)) }
     ensures bad { OnErr result ((lattice : Lattice) (ops : List Op) → IsHallSymbol text.now lattice ops → ⊥) }
 
-    // What a group can be closed from.
-    ensures few { IfOk result (λ g. array_vec_len g.ops ≤ 5) }
-    ensures fit { IfOk result (λ g. All operations.IsFit g.ops.items) }
+    // They can be handed to `Group::close`.
+    ensures fit { IfOk result (λ g. AreGenerators g.ops.items) }
 {
     match symbol_of(text) {
         Some(generators) => Ok(generators),

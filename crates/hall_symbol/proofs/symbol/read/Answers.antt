@@ -1,5 +1,5 @@
 use Rattle.std.proofs.Common.{◌≡◌, ap, ◌∙◌, sym, Some, None, option_map}
-use Rattle.hall_symbol.proofs.FitLemmas.{IsFit-IsHallSymbol}
+use Rattle.hall_symbol.proofs.FitLemmas.{AreGenerators-IsHallSymbol}
 use Rattle.hall_symbol.proofs.SymbolGrammar.{symbol_of-sound, symbol_of-IsHallSymbol, IsHallSymbol-unique}
 use Rattle.hall_symbol.proofs.symbol.read.Goals as goal
 
@@ -12,7 +12,7 @@ returns-in-Some-clause-only c = λ lattice ops h. IsHallSymbol-unique c.args.tex
 
 pub returns-in-Some-clause-fit : goal.returns-in-Some-clause-fit
 returns-in-Some-clause-fit c =
-    IsFit-IsHallSymbol c.args.text.now c.in-Some.generators.lattice c.in-Some.generators.ops.items (returns-in-Some-clause-ok c)
+    AreGenerators-IsHallSymbol c.args.text.now c.in-Some.generators.lattice c.in-Some.generators.ops.items (returns-in-Some-clause-ok c)
 
 pub returns-in-None-clause-bad : goal.returns-in-None-clause-bad
 returns-in-None-clause-bad c = λ lattice ops h.
