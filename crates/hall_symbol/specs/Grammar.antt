@@ -1,4 +1,4 @@
--- Hall symbols, after S. R. Hall, Acta Cryst. A37 (1981) 517, in the profile of docs/FILE_FORMAT.md:
+-- Hall symbols, after S. R. Hall, Acta Cryst. A37 (1981) 517, in the profile that docs/FILE_FORMAT.md tells:
 --
 --     [-]LATTICE PART {PART} [( P Q R )]
 --
@@ -70,20 +70,22 @@ pub record IsWritten (words : List (List ℕ)) (v : List ℤ) : Type 0 where
 abbrev pub IsOriginShift : List (List ℕ) → List ℤ → Type 0
 IsOriginShift words v = ((words ≡ []) × (v ≡ pos 0 ∷ pos 0 ∷ pos 0 ∷ [])) ⊎ IsWritten words v
 
--- The text is a symbol of this lattice: at most 80 bytes between the blanks at its ends, a lattice,
--- one to four parts and an origin shift, each part with a generator. The operations are the inversion,
--- where a `-` stands before the lattice, and those of the parts, all seen from the shifted origin.
+-- The text is a symbol of this lattice with these operations.
 pub record IsHallSymbol (text : List ℕ) (lattice : Lattice) (ops : List Op) : Type 0 where
+  -- what is written: whether `-` stands before the lattice, one to four parts, and an origin shift or none
   pub inverted : Bool
   pub parts : List Spelling
   pub ending : List (List ℕ)
-  pub shift : List ℤ
-  pub generators : List Generator
-  pub short : length (trimmed text) ≤ 80
   pub words : AreWords (head_text inverted lattice ∷ (map text_of parts ++ ending)) text
   pub some : 0 < length parts
   pub few : length parts ≤ 4
   pub spelled : All IsSpelling parts
+  -- at most 80 bytes between the blanks at the ends
+  pub short : length (trimmed text) ≤ 80
+  -- what it means: each part has a generator behind those before it
+  pub shift : List ℤ
   pub shifted : IsOriginShift ending shift
+  pub generators : List Generator
   pub generated : generators_of [] (map part_of parts) ≡ Some generators
+  -- the inversion first, where there is one, then the parts, all seen from the shifted origin
   pub ops_are : ops ≡ map (op_at_origin shift) (inversion_of inverted ++ generators)

@@ -4,6 +4,7 @@ pub mod RotationLaws
 pub mod Steps
 pub mod Spelling
 pub mod Generators
+pub mod GeneratorLaws
 pub mod Operations
 pub mod Grammar
 pub mod WordReading

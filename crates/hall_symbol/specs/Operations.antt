@@ -3,11 +3,11 @@
 -- signed negated rot: R or -R
 -- op_at_origin v generator: {R | t + v - R v}, its translation modulo 1
 -- inversion: {-E|0}
-use Rattle.std.specs.Prelude.{ℕ, ◌+◌, ℤ, pos, ◌+ℤ◌, ◌-ℤ◌, ◌≤ℤ◌, neg_ℤ, Bool, true, false, List, [], ◌∷◌, slice_index_or}
+use Rattle.std.specs.Prelude.{ℕ, ◌+◌, ℤ, pos, ◌+ℤ◌, ◌-ℤ◌, neg_ℤ, Bool, true, false, List, [], ◌∷◌, slice_index_or}
 use Rattle.std.specs.Int.{int_rem_euclid}
 use Rattle.space_ops.specs.declared.op.Op.{Op}
 use Rattle.space_ops.specs.Matrix.{row_times}
-use Rattle.space_ops.specs.Op.{number_at, row_at, matrix_of, IsSmallRotation, IsUnimodular}
+use Rattle.space_ops.specs.Op.{number_at, row_at}
 use Rattle.space_ops.specs.Whole.{whole}
 use Rattle.hall_symbol.specs.declared.generator.Generator.{Generator}
 use Rattle.hall_symbol.specs.declared.rotation.Rotation.TheVariants.{One}

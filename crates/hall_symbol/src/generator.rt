@@ -1,11 +1,12 @@
 // The rotation and the translation that a part names behind the parts before it.
-ghost use Rattle.std.specs.Prelude.{◌≡◌, ◌+◌, ◌<◌, ◌≤◌, ◌∷◌, [], map};
+ghost use Rattle.std.specs.Prelude.{◌≡◌};
 ghost use Rattle.hall_symbol.specs.Generators as generators;
 
 use crate::part::Part;
 use crate::rotation::{
     Axis, CellAxis, Order, Rotation, order_value, rotation_axis, rotation_order,
 };
+use space_ops::TWELFTHS;
 
 /// A generator as its part names it: the rotation with its sign, and the translations of the digit and
 /// of the letters in twelfths.
@@ -119,7 +120,7 @@ fn screw_of(rotation: Rotation, order: Order, digit: u8) -> Option<[u16; 3]>
     let digit = u16::from(digit);
     if digit < n {
         let axis = rotation_axis(rotation)?;
-        Some(along(axis, digit * (12 / n)))
+        Some(along(axis, digit * (TWELFTHS as u16 / n)))
     } else {
         None
     }

@@ -1,8 +1,7 @@
 // Origin shifts, and the operations as they are seen from a shifted origin.
-ghost use Rattle.std.specs.Prelude.{◌≡◌, ◌≤◌, ◌+◌, ◌*◌, ℤ, pos, ◌+ℤ◌, ◌-ℤ◌, ◌*ℤ◌, ◌∷◌, [], nat_le, if◌then◌else◌, length, option_map, IfSome};
+ghost use Rattle.std.specs.Prelude.{◌≡◌, ◌≤◌, option_map, IfSome};
 ghost use Rattle.space_ops.specs.Op.{IsWithin, IsShiftWithin};
 ghost use Rattle.hall_symbol.specs.Grammar.{signed_number};
-ghost use Rattle.hall_symbol.specs.Operations as operations;
 ghost use Rattle.hall_symbol.specs.ShiftReading as shift_reading;
 ghost use Rattle.hall_symbol.specs.WordReading as word_reading;
 

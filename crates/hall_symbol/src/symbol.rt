@@ -2,7 +2,6 @@
 ghost use Rattle.std.specs.Prelude.{◌≡◌, ◌<◌, ◌≤◌, ◌+◌, ◌++◌, [], ◌∷◌, true, false, length, map, option_map, IfNone, IfSome, IfOk, OnErr, List};
 ghost use Rattle.arrayvec.specs.ArrayVec.{array_vec_len};
 ghost use Rattle.space_ops.specs.Op.{IsShiftWithin};
-ghost use Rattle.std.specs.List.{All};
 ghost use Rattle.space_ops.specs.declared.lattice.Lattice.{Lattice};
 ghost use Rattle.space_ops.specs.declared.op.Op.{Op};
 ghost use Rattle.space_ops.specs.Group.{AreGenerators};

@@ -1,5 +1,5 @@
 // Blanks and the words of a text.
-ghost use Rattle.std.specs.Prelude.{◌≡◌, ℕ, ◌+◌, ◌<◌, ◌≤◌, ◌∷◌, [], true, length, take, drop, MatchOption, IfSome};
+ghost use Rattle.std.specs.Prelude.{◌≡◌, ◌+◌, ◌<◌, ◌≤◌, ◌∷◌, [], true, length, take, drop, MatchOption, IfSome};
 ghost use Rattle.hall_symbol.specs.Words.{is_blank, can_follow, after_blanks, before_blanks, trimmed};
 ghost use Rattle.hall_symbol.specs.WordReading.{words, ends_word, begins_word};
 

@@ -4,7 +4,7 @@ use Rattle.std.proofs.lemmas.List.{append-nil}
 use Rattle.iso_text.specs.Streams.{GrownBy}
 use Rattle.iso_report.specs.Endings.{Change, Grew, change}
 use Rattle.iso_report.specs.Outcome.{IsOutcome, refused}
-use Rattle.iso_report.specs.declared.job.Job.TheVariants as job
+use Rattle.iso_report.specs.declared.job.Job.{Job}
 use Rattle.iso_report.specs.declared.refusal.Refusal.{Refusal}
 use Rattle.iso_cli.specs.declared.status.Status.{Status}
 use Rattle.iso_cli.specs.declared.status.Status.TheVariants as status
@@ -19,24 +19,24 @@ grew_nothing None old new = tt
 grew_nothing (Some held) old new = ap (λ t. Some t) (sym (append-nil held))
 
 -- a refusal of the definitions, said
-pub refused_answer : (s : Status) (bytes : List ℕ) (r : Refusal) (out err : Change) → length bytes ≤ max_bytes → IsOutcome job.List bytes (refused r) → Grew [] out → SaysRefusal r s err → Answers job.List bytes s out err
-refused_answer status.Refused bytes r out err l h g said = (g, inr (r, l, h, said))
-refused_answer status.NoMemory bytes r out err l h g said = (inl g, said)
-refused_answer status.Done bytes r out err l h g said = absurd said
-refused_answer status.Usage bytes r out err l h g said = absurd said
-refused_answer status.ReadFault bytes r out err l h g said = absurd said
-refused_answer status.WriteFault bytes r out err l h g said = absurd said
+pub refused_answer : (job : Job) (s : Status) (bytes : List ℕ) (r : Refusal) (out err : Change) → length bytes ≤ max_bytes → IsOutcome job bytes (refused r) → Grew [] out → SaysRefusal r s err → Answers job bytes s out err
+refused_answer job status.Refused bytes r out err l h g said = (g, inr (r, l, h, said))
+refused_answer job status.NoMemory bytes r out err l h g said = (inl g, said)
+refused_answer job status.Done bytes r out err l h g said = absurd said
+refused_answer job status.Usage bytes r out err l h g said = absurd said
+refused_answer job status.ReadFault bytes r out err l h g said = absurd said
+refused_answer job status.WriteFault bytes r out err l h g said = absurd said
 
 -- the answers of a source that could not be taken
-pub fault_answer : (left written : Option (List ℕ)) (faults : ℕ) (err : Change) → Says read_line err → IfSome left (λ bytes. Answers job.List bytes status.ReadFault (change written written faults faults) err)
-fault_answer None written faults err said = tt
-fault_answer (Some bytes) written faults err said = (grew_nothing written faults faults, said)
+pub fault_answer : (job : Job) (left written : Option (List ℕ)) (faults : ℕ) (err : Change) → Says read_line err → IfSome left (λ bytes. Answers job bytes status.ReadFault (change written written faults faults) err)
+fault_answer job None written faults err said = tt
+fault_answer job (Some bytes) written faults err said = (grew_nothing written faults faults, said)
 
-pub memory_answer : (left written : Option (List ℕ)) (faults : ℕ) (err : Change) → Says memory_line err → IfSome left (λ bytes. Answers job.List bytes status.NoMemory (change written written faults faults) err)
-memory_answer None written faults err said = tt
-memory_answer (Some bytes) written faults err said = (inl (grew_nothing written faults faults), said)
+pub memory_answer : (job : Job) (left written : Option (List ℕ)) (faults : ℕ) (err : Change) → Says memory_line err → IfSome left (λ bytes. Answers job bytes status.NoMemory (change written written faults faults) err)
+memory_answer job None written faults err said = tt
+memory_answer job (Some bytes) written faults err said = (inl (grew_nothing written faults faults), said)
 
-pub long_answer : (left written : Option (List ℕ)) (faults : ℕ) (err : Change) → IfSome left (λ bytes. max_bytes < length bytes) → Says too_long_line err
-    → IfSome left (λ bytes. Answers job.List bytes status.Refused (change written written faults faults) err)
-long_answer None written faults err l said = tt
-long_answer (Some bytes) written faults err l said = (grew_nothing written faults faults, inl (l, said))
+pub long_answer : (job : Job) (left written : Option (List ℕ)) (faults : ℕ) (err : Change) → IfSome left (λ bytes. max_bytes < length bytes) → Says too_long_line err
+    → IfSome left (λ bytes. Answers job bytes status.Refused (change written written faults faults) err)
+long_answer job None written faults err l said = tt
+long_answer job (Some bytes) written faults err l said = (grew_nothing written faults faults, inl (l, said))

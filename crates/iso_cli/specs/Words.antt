@@ -8,9 +8,9 @@ use Rattle.std.specs.Borrow.{Bor}
 use Rattle.iso_report.specs.declared.job.Job.{Job}
 use Rattle.iso_report.specs.declared.job.Job.TheVariants as job
 
--- exactly the word `list`
+-- exactly the word `check` or `list`
 abbrev pub job_of : List (List ℕ) → Option Job
-job_of (word ∷ []) = if bytes_eq word (codes "list") then Some job.List else None
+job_of (word ∷ []) = if bytes_eq word (codes "check") then Some job.Check else (if bytes_eq word (codes "list") then Some job.List else None)
 job_of _ = None
 
 abbrev pub texts_of : List (Bor (List ℕ)) → List (List ℕ)

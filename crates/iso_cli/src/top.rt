@@ -25,6 +25,7 @@ fn job(words: &[&str]) -> Option<Job>
     ensures { result ≡ job_of (texts_of words.now) }
 {
     match words {
+        [word] if *word == "check" => Some(Job::Check),
         [word] if *word == "list" => Some(Job::List),
         _ => None,
     }
@@ -53,17 +54,23 @@ fn refuse<E: Sink>(alloc: Global, refusal: &Refusal, err: &mut E) -> Status
     }
 }
 
-// Answers `list` over a file's bytes.
-fn answer<O: Sink, E: Sink>(alloc: Global, bytes: &[u8], out: &mut O, err: &mut E) -> Status
+// Answers a job over a file's bytes.
+fn answer<O: Sink, E: Sink>(
+    alloc: Global,
+    job: Job,
+    bytes: &[u8],
+    out: &mut O,
+    err: &mut E,
+) -> Status
     requires { length bytes.now ≤ MAX_BYTES }
-    ensures answers { Answers Job.List bytes.now result
+    ensures answers { Answers job bytes.now result
         (change (O.written out.old) (O.written out.new) (O.faults out.old) (O.faults out.new))
         (change (E.written err.old) (E.written err.new) (E.faults err.old) (E.faults err.new)) }
     ensures safe { IsSafe result (change (O.written out.old) (O.written out.new) (O.faults out.old) (O.faults out.new)) }
     ensures no_fault { result ≢ Status.ReadFault }
     ensures refused { result ≡ Status.Refused → (r : Refusal) × Says (line_of r) (change (E.written err.old) (E.written err.new) (E.faults err.old) (E.faults err.new)) }
 {
-    match run(alloc, bytes, out) {
+    match run(alloc, &job, bytes, out) {
         Ok(()) => Status::Done,
         Err(RunError::Refused(refusal)) => refuse(alloc, &refusal, err),
         Err(RunError::WriteFault) => {
@@ -77,14 +84,15 @@ fn answer<O: Sink, E: Sink>(alloc: Global, bytes: &[u8], out: &mut O, err: &mut 
     }
 }
 
-// Answers `list` over what is left of the source.
+// Answers a job over what is left of the source.
 fn answer_source<S: Source, O: Sink, E: Sink>(
     alloc: Global,
+    job: Job,
     source: &mut S,
     out: &mut O,
     err: &mut E,
 ) -> Status
-    ensures answers { IfSome (S.left source.old) (λ bytes. Answers Job.List bytes result
+    ensures answers { IfSome (S.left source.old) (λ bytes. Answers job bytes result
         (change (O.written out.old) (O.written out.new) (O.faults out.old) (O.faults out.new))
         (change (E.written err.old) (E.written err.new) (E.faults err.old) (E.faults err.new))) }
     ensures safe { IsSafe result (change (O.written out.old) (O.written out.new) (O.faults out.old) (O.faults out.new)) }
@@ -96,7 +104,7 @@ fn answer_source<S: Source, O: Sink, E: Sink>(
     ensures rest { IsRestOf (S.left source.old) (S.left source.new) }
 {
     match take_all(alloc, source) {
-        Ok(bytes) => answer(alloc, &bytes, out, err),
+        Ok(bytes) => answer(alloc, job, &bytes, out, err),
         Err(TakeError::ReadFault) => {
             say(err, READ_FAILED.as_bytes());
             Status::ReadFault
@@ -144,7 +152,7 @@ pub fn isodist<'a, S: Source, O: Sink, E: Sink>(
     ensures rest { IsRestOf (S.left source.old) (S.left source.new) }
 {
     match job(words) {
-        Some(Job::List) => answer_source(alloc, source, out, err),
+        Some(job) => answer_source(alloc, job, source, out, err),
         None => refuse(alloc, &Refusal::NotBuilt, err),
     }
 }

@@ -5,7 +5,7 @@ use Rattle.iso_cli.proofs.top.answer.Goals as goal
 pub returns-in-Err-Refused-clause-answers : goal.returns-in-Err-Refused-clause-answers
 returns-in-Err-Refused-clause-answers g c =
     let fails = rw c.in-Err-Refused.field-0-is at c.in-Err-Refused.ensures.answer in
-    refused_answer c.refuse.result c.args.bytes.now c.in-Err-Refused.refusal _ _ c.requires fails.0 fails.1 c.refuse.ensures
+    refused_answer c.args.job c.refuse.result c.args.bytes.now c.in-Err-Refused.refusal _ _ c.requires fails.0 fails.1 c.refuse.ensures
 
 pub returns-in-Err-WriteFault-clause-answers : goal.returns-in-Err-WriteFault-clause-answers
 returns-in-Err-WriteFault-clause-answers g c =
