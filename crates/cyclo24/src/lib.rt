@@ -13,4 +13,4 @@ mod whole;
 
 pub use field::{Field, Wide};
 pub use k24::K24;
-pub use laws::{law_of_roots, law_of_squares};
+pub use laws::{law_of_renumbering, law_of_roots, law_of_squares, law_of_whole_numbers};
