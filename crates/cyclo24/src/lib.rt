@@ -21,5 +21,5 @@ pub use cyclotomic_laws::{
 };
 pub use field::{Field, Wide};
 pub use k24::K24;
-pub use laws::{law_of_roots, law_of_squares};
+pub use laws::{law_of_renumbering, law_of_roots, law_of_squares, law_of_whole_numbers};
 pub use z24::Z24;
