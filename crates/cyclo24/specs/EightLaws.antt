@@ -4,11 +4,11 @@
 -- conj8-..: conjugation is an involution that respects sums and products
 -- re8-.., im8-.., parts8: real and imaginary parts
 -- real8-..: real numbers
-use Rattle.std.proofs.Common.{◌≡◌, ℕ, ◌+◌, suc, zero, refl, sym, ap, ◌∙◌, List, [], ◌∷◌, true, false, Bool}
+use Rattle.std.proofs.Common.{◌≡◌, ℕ, ◌+◌, suc, refl, sym, [], ◌∷◌, true, false, Bool}
 use Rattle.cyclo24.specs.Ring.{Ops, IsRing}
-use Rattle.cyclo24.specs.Four.{Four, mul4, add4, neg4, num4, four_ops}
-use Rattle.cyclo24.specs.Eight.{Eight, mul8, add8, neg8, num8, eight_ops, conj8, re8, im8, real8, minus, z8, i8}
-use Rattle.cyclo24.specs.Solve.{Exp, V, K, Mul, Add, Neg, exps, solve, same, value, and_then, at}
+use Rattle.cyclo24.specs.Four.{Four, mul4, add4, neg4, num4}
+use Rattle.cyclo24.specs.Eight.{Eight, mul8, add8, neg8, num8, eight_ops, conj8, re8, im8, real8, i8}
+use Rattle.cyclo24.specs.Solve.{Exp, V, K, Mul, exps, solve, same, value, and_then, at}
 use Rattle.cyclo24.specs.FourLaws.{vars, values, same4}
 
 abbrev pub vars8 : ℕ → Eight Exp

@@ -4,11 +4,9 @@
 -- eight: what makes fractions of them a field; eight_is: its laws
 -- square8 x: four times the squared absolute value; squares_left, squares_right: a sum of two squares is 0 only where both are
 -- no_parts: a number whose parts are 0 is 0
-use Rattle.std.proofs.Common.{◌≡◌, ◌≢◌, ℕ, zero, suc, ◌+◌, ◌*◌, ◌/◌, ◌<◌, ◌≤◌, refl, sym, ap, ◌∙◌, subst, arith, ℤ, pos, negsuc, ◌+ℤ◌, ◌*ℤ◌, neg_ℤ, List, [], ◌∷◌, Bool, true, false, map, rules, length, get_or}
-use Rattle.std.specs.Prelude.{◌&&◌}
-use Rattle.std.specs.Ordering.{int_eq}
+use Rattle.std.proofs.Common.{◌≡◌, ℕ, zero, suc, ◌*◌, ◌<◌, refl, sym, ap, ◌∙◌, arith, ℤ, pos, negsuc, ◌+ℤ◌, ◌*ℤ◌, List, [], ◌∷◌, length, get_or}
 use Rattle.std.specs.Int.RustNames.{unsigned_abs}
-use Rattle.std.proofs.lemmas.Int.{ints, unsigned_abs-mul}
+use Rattle.std.proofs.lemmas.Int.{ints}
 use Rattle.cyclo24.specs.Ring.{Ops, IsRing}
 use Rattle.cyclo24.specs.WholeRing.{whole, whole_ring}
 use Rattle.cyclo24.specs.Numerators.{Numerators, IsNumerators}

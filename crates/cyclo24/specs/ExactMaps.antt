@@ -4,13 +4,12 @@
 -- exact_map-is: its list
 -- exact_map-plus, exact_map-times, exact_map-nought, exact_map-unit: it respects sums and products as φ does
 -- exact_map-map: one map after another; exact_map-same, exact_map-itself, plus-exact_map: equal maps
-use Rattle.std.proofs.Common.{◌≡◌, ℕ, zero, suc, ◌+◌, ◌*◌, ◌<◌, refl, sym, ap, ◌∙◌, arith}
+use Rattle.std.proofs.Common.{◌≡◌, ℕ, ◌*◌, ◌<◌, refl, sym, ap, ◌∙◌}
 use Rattle.std.specs.Int.RustNames.{unsigned_abs}
-use Rattle.cyclo24.specs.Ring.{Ops, IsRing}
-use Rattle.cyclo24.specs.FieldOn.{FieldOn}
+use Rattle.cyclo24.specs.Ring.{Ops}
 use Rattle.cyclo24.specs.ExactField.{Exact}
 use Rattle.cyclo24.specs.Fraction.{Fraction}
-use Rattle.cyclo24.specs.FractionLaws.{lower, sum, times, minus, nought, one_positive, mul_positive}
+use Rattle.cyclo24.specs.FractionLaws.{lower, sum, times, minus, one_positive, mul_positive}
 use Rattle.cyclo24.specs.Numerators.{Numerators, IsNumerators, content_of}
 use Rattle.cyclo24.specs.CommonLaws.{content_of_is}
 use Rattle.cyclo24.specs.Gcd.{lowest_terms}

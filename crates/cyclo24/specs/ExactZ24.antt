@@ -6,7 +6,7 @@
 -- is_wide_sum_z24, is_wide_difference_z24, is_wide_product_z24, is_wide_inverse_z24: some number of the formula is wide
 -- is_wide_conj, is_wide_real_part, is_wide_imag_part, is_wide_from_real: the same
 -- z24: the field with its order and its wide operations
-use Rattle.std.specs.Prelude.{◌≡◌, ℕ, zero, suc, ◌<◌, ◌*◌, ℤ, pos, List, [], ◌∷◌, Bool, ◌||◌, refl}
+use Rattle.std.specs.Prelude.{ℕ, zero, suc, Bool, ◌||◌}
 use Rattle.cyclo24.specs.FieldOn.{FieldOn}
 use Rattle.cyclo24.specs.ExactField.{Exact, ExactField}
 use Rattle.cyclo24.specs.WholeRing.{whole}
@@ -14,7 +14,7 @@ use Rattle.cyclo24.specs.Listed.{is_exact, exact_cmp}
 use Rattle.cyclo24.specs.ListedLaws.{exact_laws, exact_ones, exact_cmp_total, exact_cmp-Equal}
 use Rattle.cyclo24.specs.ExactMaps.{exact_map, exact_member}
 use Rattle.cyclo24.specs.FourNorm.{whole4, four, four_is}
-use Rattle.cyclo24.specs.Eight.{Eight, conj8, re8, im8, real8, z8, i8}
+use Rattle.cyclo24.specs.Eight.{conj8, re8, im8, real8, z8, i8}
 use Rattle.cyclo24.specs.EightNorm.{whole8, eight, eight_is, above0, above3}
 use Rattle.cyclo24.specs.Checked.{any_wide}
 use Rattle.cyclo24.specs.ExactK24.{Exact24, k24_laws, is_wide_inverse24}

@@ -3,12 +3,12 @@
 -- IsLinear φ: a map of rings that respects sums and multiples
 -- mapped φ k f: φ x over k d, where f is x / d
 -- mapped-sum, mapped-times, mapped-mapped: of sums, products and of another map
-use Rattle.std.proofs.Common.{◌≡◌, ℕ, zero, suc, ◌+◌, ◌*◌, ◌<◌, refl, sym, ap, ◌∙◌, arith, List, [], ◌∷◌}
-use Rattle.std.proofs.Math.Nat.{mul_comm, mul_assoc}
-use Rattle.cyclo24.specs.Ring.{Ops, IsRing}
+use Rattle.std.proofs.Common.{◌≡◌, ℕ, ◌*◌, ◌<◌, refl, sym, ap, ◌∙◌, arith, [], ◌∷◌}
+use Rattle.std.proofs.Math.Nat.{mul_assoc}
+use Rattle.cyclo24.specs.Ring.{Ops}
 use Rattle.cyclo24.specs.Fraction.{Content, IsContent, Fraction}
 use Rattle.cyclo24.specs.FractionLaws.{lower, Is, is_self, is_lower, same_from_is, mul_positive, is_sum, is_times, sum, times, minus, is_minus, nought, one_positive}
-use Rattle.cyclo24.specs.Solve.{Exp, V, K, Neg, Add, Mul, solve, num_mul, mul_zero, at}
+use Rattle.cyclo24.specs.Solve.{V, K, Add, Mul, solve, num_mul, at}
 
 -- a map that respects sums and multiples
 pub record IsLinear {R S : Type 0} (o : Ops R) (o' : Ops S) (φ : R → S) : Type 0 where

@@ -7,7 +7,7 @@
 -- dot xs ys: the sum of the products of two lists, place by place
 -- product, sum, conjugate, real, imaginary, from_four: the formulas, before lowest terms
 -- negated: with all signs changed
-use Rattle.std.specs.Prelude.{◌≡◌, ℕ, ℤ, pos, negsuc, neg_ℤ, List, [], ◌∷◌, get_or, true, false}
+use Rattle.std.specs.Prelude.{◌≡◌, ℕ, ℤ, pos, negsuc, neg_ℤ, List, [], ◌∷◌, get_or, false}
 use Rattle.std.specs.Int.RustNames.{unsigned_abs}
 use Rattle.cyclo24.specs.declared.whole.Whole.{Whole}
 use Rattle.cyclo24.specs.declared.fraction4.Fraction4.{Fraction4}

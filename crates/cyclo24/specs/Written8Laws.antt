@@ -2,13 +2,13 @@
 --
 -- dot_step, dot_err_times, dot_err_plus, dot_end: one product after the others
 -- sum_by, reduced_narrow: sums and lowest terms by the quotients that calls gave
-use Rattle.std.proofs.Common.{◌≡◌, ◌<◌, ◌*◌, ◌/◌, ℕ, zero, suc, refl, sym, ap, ◌∙◌, subst, arith, rules, ℤ, pos, negsuc, neg_ℤ, ◌+ℤ◌, ◌*ℤ◌, List, [], ◌∷◌, map, Bool, true, false, Ok, Err}
+use Rattle.std.proofs.Common.{◌≡◌, ℕ, sym, ap, ◌∙◌, subst, pos, List, [], ◌∷◌, Ok, Err}
 use Rattle.std.specs.Int.RustNames.{unsigned_abs}
 use Rattle.cyclo24.specs.declared.field.Wide.{Wide}
 use Rattle.cyclo24.specs.declared.whole.Whole.{Whole}
 use Rattle.cyclo24.specs.declared.fraction8.Fraction8.{Fraction8}
 use Rattle.cyclo24.specs.Gcd.{gcd, common, quotient}
-use Rattle.cyclo24.specs.Checked.{Checked, answer, is_wide, then, give, times, plus}
+use Rattle.cyclo24.specs.Checked.{answer, then, times, plus}
 use Rattle.cyclo24.specs.CheckedLaws.{quotient_narrow, answer_then_ok, answer_then_err, answer_give}
 use Rattle.cyclo24.specs.Written8.{numerators8, IsNarrow8, num, dot_from, sum_over, sum}
 

@@ -2,7 +2,7 @@
 --
 -- product_value, sum_value, conjugate_value, real_value, imaginary_value, from_four_value: the numerators and the denominator that are answered
 -- product_narrow, sum_narrow, conjugate_narrow, real_narrow, imaginary_narrow, from_four_narrow: no number of an answer is wide
-use Rattle.std.proofs.Common.{◌≡◌, ℕ, zero, suc, refl, sym, ap, ◌∙◌, subst, arith, ℤ, pos, negsuc, neg_ℤ, ◌+ℤ◌, ◌*ℤ◌, List, [], ◌∷◌, Bool, true, false, lit≤}
+use Rattle.std.proofs.Common.{◌≡◌, refl, sym, ap, ◌∙◌, subst, arith, ℤ, pos, negsuc, neg_ℤ, ◌+ℤ◌, ◌*ℤ◌, List, [], ◌∷◌, false, lit≤}
 use Rattle.std.proofs.lemmas.Int.{ints}
 use Rattle.cyclo24.specs.declared.whole.Whole.{Whole}
 use Rattle.cyclo24.specs.declared.fraction4.Fraction4.{Fraction4}
@@ -10,9 +10,9 @@ use Rattle.cyclo24.specs.declared.fraction8.Fraction8.{Fraction8}
 use Rattle.cyclo24.specs.declared.fraction8.High.{High}
 use Rattle.cyclo24.specs.WholeRing.{whole, add_zeroℤ}
 use Rattle.cyclo24.specs.FourNorm.{list4}
-use Rattle.cyclo24.specs.Eight.{Eight, mul8, conj8, re8, im8, real8, s0, s1, s2, s3, s4, s5, s6, s7, s8, s9, s10, s11, s12, s13, s14}
+use Rattle.cyclo24.specs.Eight.{mul8, conj8, re8, im8, real8, s0, s1, s2, s3, s4, s5, s6, s7, s8, s9, s10, s11, s12, s13, s14}
 use Rattle.cyclo24.specs.EightNorm.{list8}
-use Rattle.cyclo24.specs.Checked.{Checked, any_wide, is_wide, then, give, times, plus}
+use Rattle.cyclo24.specs.Checked.{Checked, any_wide, is_wide, then, times, plus}
 use Rattle.cyclo24.specs.CheckedLaws.{then_narrow, written_narrow, below_wide}
 use Rattle.cyclo24.specs.Written4.{numerators4, four_of, IsNarrow4, fraction}
 use Rattle.cyclo24.specs.Written8.{numerators8, eight_of, IsNarrow8, num, dot_from, dot, high_sums, less_two, and_one, fraction8, low, product, joined, sum_over, signed, conjugate, real, imaginary, from_four}

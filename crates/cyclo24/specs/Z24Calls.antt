@@ -3,10 +3,10 @@
 -- product_z24, sum_z24, conj_z24, real_z24, imag_z24, from_real_z24: what is reduced is the exact result
 -- .._ready: what is answered can be reduced
 -- negated_z24, small, zero_z24, one_z24, is_zero_z24: the other operations
-use Rattle.std.proofs.Common.{◌≡◌, ◌<◌, ◌*◌, ◌/◌, ℕ, zero, suc, refl, sym, ap, ◌∙◌, subst, arith, rules, ℤ, pos, negsuc, neg_ℤ, ◌+ℤ◌, ◌*ℤ◌, List, [], ◌∷◌, Bool, true, false, Ok, Err, le_trans, lit≤}
+use Rattle.std.proofs.Common.{◌≡◌, ◌<◌, ◌*◌, ◌/◌, ℕ, refl, sym, ap, ◌∙◌, subst, arith, rules, ℤ, pos, negsuc, ◌+ℤ◌, ◌*ℤ◌, [], ◌∷◌, Bool, true, false, Ok, le_trans, lit≤}
 use Rattle.std.specs.Prelude.{IsTrue}
 use Rattle.std.specs.Int.RustNames.{unsigned_abs}
-use Rattle.std.proofs.lemmas.Int.{ints, unsigned_abs-mul}
+use Rattle.std.proofs.lemmas.Int.{unsigned_abs-mul}
 use Rattle.cyclo24.specs.declared.whole.Whole.{Whole}
 use Rattle.cyclo24.specs.declared.fraction4.Fraction4.{Fraction4}
 use Rattle.cyclo24.specs.declared.fraction8.Fraction8.{Fraction8}
@@ -15,16 +15,16 @@ use Rattle.cyclo24.specs.GcdLaws.{gcd_is}
 use Rattle.cyclo24.specs.WholeRing.{whole}
 use Rattle.cyclo24.specs.Written4Laws.{quotient_positive}
 use Rattle.cyclo24.specs.FourNorm.{whole4, four, four_is, list4}
-use Rattle.cyclo24.specs.Eight.{Eight, mul8, conj8, re8, im8, real8}
+use Rattle.cyclo24.specs.Eight.{mul8, conj8, re8, im8, real8}
 use Rattle.cyclo24.specs.EightNorm.{whole8, eight, eight_is, list8, above0, above3}
 use Rattle.cyclo24.specs.Listed.{is_exact, is_positive}
 use Rattle.cyclo24.specs.ListedLaws.{exact_is, positive_abs, same_exact, is_nought-is}
 use Rattle.cyclo24.specs.ExactLaws.{plus-is, neg-is, neg-list, times-is, nought-is, unit-is}
 use Rattle.cyclo24.specs.ExactMaps.{exact_map-is}
-use Rattle.cyclo24.specs.Checked.{Checked, any_wide, is_wide, answer}
+use Rattle.cyclo24.specs.Checked.{is_wide, answer}
 use Rattle.cyclo24.specs.CheckedLaws.{answer_ok, neg_narrow, below_wide}
 use Rattle.cyclo24.specs.Written4.{numbers4, numerators4, four_of, IsNarrow4}
-use Rattle.cyclo24.specs.Written8.{numbers8, numerators8, eight_of, IsNarrow8, num, sum_over, sum, product, negated, conjugate, real, imaginary, from_four}
+use Rattle.cyclo24.specs.Written8.{numbers8, numerators8, eight_of, IsNarrow8, num, sum, product, negated, conjugate, real, imaginary, from_four}
 use Rattle.cyclo24.specs.Written8Values.{product_value, sum_value, conjugate_value, real_value, imaginary_value, from_four_value, product_narrow, sum_narrow, conjugate_narrow, real_narrow, imaginary_narrow, from_four_narrow}
 use Rattle.cyclo24.specs.ExactK24.{Exact24}
 use Rattle.cyclo24.specs.ExactZ24.{ExactZ24, z24_laws, conj, real_part, imag_part, from_real}

@@ -2,7 +2,7 @@
 --
 -- wide_steps: where the inverse is wide, by the steps; wide_square, wide_over, wide_factor, wide_last: by one step
 -- square_step: a isn't 0; value_step: y f is the inverse
-use Rattle.std.proofs.Common.{◌≡◌, refl, sym, ap, ◌∙◌, subst, Bool, true, false}
+use Rattle.std.proofs.Common.{◌≡◌, refl, sym, ap, ◌∙◌, Bool, true, false}
 use Rattle.std.specs.Prelude.{◌||◌, IsTrue}
 use Rattle.cyclo24.specs.ExactK24.{Exact24, k24_laws, is_wide_inverse24}
 use Rattle.cyclo24.specs.ExactZ24.{ExactZ24, z24_laws, conj, real_part, from_real, is_wide_conj, is_wide_product_z24, is_wide_real_part, is_wide_from_real, is_wide_inverse_z24}

@@ -5,13 +5,13 @@
 -- real_part-unit, imag_part-unit, no_parts: the parts of 1; only 0 has none
 -- times-conj, real_part-times-conj: x times its conjugate is the sum of the squares of its parts
 -- by_conjugate x: the inverse by the conjugate; inverse_is: it is the inverse
-use Rattle.std.proofs.Common.{◌≡◌, ℕ, zero, suc, refl, sym, ap, ◌∙◌, List, [], ◌∷◌, Bool, true, false}
+use Rattle.std.proofs.Common.{◌≡◌, refl, sym, ap, ◌∙◌, [], ◌∷◌, Bool, true, false}
 use Rattle.cyclo24.specs.FieldOn.{FieldOn}
 use Rattle.cyclo24.specs.ExactField.{Exact}
-use Rattle.cyclo24.specs.Solve.{Exp, V, K, Neg, Add, Mul, solve, at, by_test}
+use Rattle.cyclo24.specs.Solve.{V, K, Neg, Add, Mul, solve, at, by_test}
 use Rattle.cyclo24.specs.Numerals.{ring_of}
 use Rattle.cyclo24.specs.NumeralLaws.{ring_of_is}
-use Rattle.cyclo24.specs.FieldLaws.{neg-unique, neg-plus, nought-plus, times-nought, nought-times, unit-times, neg-neg, neg-nought}
+use Rattle.cyclo24.specs.FieldLaws.{neg-unique, neg-plus, nought-plus, times-nought, unit-times}
 use Rattle.cyclo24.specs.Listed.{is_exact}
 use Rattle.cyclo24.specs.ListedLaws.{exact_laws}
 use Rattle.cyclo24.specs.FourNorm.{whole4, four, four_is}

@@ -5,14 +5,13 @@
 -- power8 n: the coefficients of z to the power n; row_is: the table of them
 -- from_real-r2, from_real-r3, from_real-r6: the square roots by powers of z
 use Rattle.std.proofs.Common.{◌≡◌, ℕ, zero, suc, ◌+◌, ◌*◌, ◌/◌, ◌%◌, ◌<◌, refl, sym, ap, ◌∙◌, arith, ℤ, pos, List, [], ◌∷◌, get_or}
-use Rattle.cyclo24.specs.FieldOn.{FieldOn}
 use Rattle.cyclo24.specs.ExactField.{Exact}
 use Rattle.cyclo24.specs.FieldLaws.{unit-times}
 use Rattle.cyclo24.specs.Gcd.{gcd, lowest_terms}
 use Rattle.cyclo24.specs.RootsK24.{r2, r3, r6}
-use Rattle.cyclo24.specs.WholeRing.{whole, whole_ring}
+use Rattle.cyclo24.specs.WholeRing.{whole}
 use Rattle.cyclo24.specs.Listed.{is_exact}
-use Rattle.cyclo24.specs.ListedLaws.{exact_laws, same_exact}
+use Rattle.cyclo24.specs.ListedLaws.{same_exact}
 use Rattle.cyclo24.specs.ExactMaps.{exact_member, exact_member-plus, exact_member-times, exact_member-neg, exact_member-one, exact_map-member, exact_member-is}
 use Rattle.cyclo24.specs.Four.{Four}
 use Rattle.cyclo24.specs.FourNorm.{whole4, four, four_is}

@@ -1,4 +1,4 @@
-use Rattle.std.proofs.Common.{rules, ◌≡◌, ◌∙◌, sym, ap, drop, get_or, length, arith, List, [], ◌∷◌, ℕ, ◌+◌, ◌<◌, ◌≤◌, suc, pos, Ok, Err}
+use Rattle.std.proofs.Common.{rules, ◌≡◌, ◌∙◌, sym, ap, drop, get_or, length, arith, List, ◌∷◌, ℕ, ◌+◌, ◌<◌, ◌≤◌, suc, pos, Ok}
 use Rattle.std.proofs.Math.Seq.{drop-cons}
 use Rattle.std.proofs.Math.ListN.{drop_of_length-le}
 use Rattle.cyclo24.specs.declared.whole.Whole.{Whole}

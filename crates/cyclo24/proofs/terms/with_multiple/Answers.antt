@@ -1,4 +1,4 @@
-use Rattle.std.proofs.Common.{subst, sym, ap, ◌≤◌, ◌+◌, ◌*◌, ℤ, ◌+ℤ◌, ◌*ℤ◌}
+use Rattle.std.proofs.Common.{subst, sym, ap, ◌≤◌, ◌+◌, ◌*◌, ℤ}
 use Rattle.std.specs.Int.RustNames.{unsigned_abs}
 use Rattle.cyclo24.specs.declared.whole.Whole.{Whole}
 use Rattle.cyclo24.specs.TermsLaws.{multiple_is, multiple_most}

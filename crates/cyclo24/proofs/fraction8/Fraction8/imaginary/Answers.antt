@@ -1,4 +1,4 @@
-use Rattle.std.proofs.Common.{rules, ◌∙◌, sym}
+use Rattle.std.proofs.Common.{rules, sym}
 use Rattle.cyclo24.specs.Written4.{fraction}
 use Rattle.cyclo24.specs.Written8.{imaginary}
 use Rattle.cyclo24.specs.CheckedLaws.{then_ok, then_err, answer_give}

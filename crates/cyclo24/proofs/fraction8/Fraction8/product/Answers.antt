@@ -1,4 +1,4 @@
-use Rattle.std.proofs.Common.{rules, ◌∙◌, sym}
+use Rattle.std.proofs.Common.{rules}
 use Rattle.cyclo24.specs.Written8.{product}
 use Rattle.cyclo24.specs.CheckedLaws.{then_ok, then_err}
 use Rattle.cyclo24.proofs.fraction8.Fraction8.product.Goals as goal

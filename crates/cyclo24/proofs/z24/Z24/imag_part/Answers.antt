@@ -1,10 +1,8 @@
-use Rattle.std.proofs.Common.{rules, refl, ◌≡◌, ◌∙◌, sym, ap, arith}
-use Rattle.cyclo24.specs.declared.fraction8.Fraction8.{Fraction8}
-use Rattle.cyclo24.specs.Checked.{answer}
+use Rattle.std.proofs.Common.{rules, ◌∙◌, sym}
 use Rattle.cyclo24.specs.CheckedLaws.{answer_ok, answer_err}
-use Rattle.cyclo24.specs.Written8.{sum, product, negated, conjugate, real, imaginary, from_four}
-use Rattle.cyclo24.specs.ExactZ24.{z24_laws, conj, real_part, imag_part, from_real}
-use Rattle.cyclo24.specs.Z24Calls.{exact_of8, exact_of4, made_low8, made_value8, made_low4, made_value4, wide_ok, imag_ready, imag_z24}
+use Rattle.cyclo24.specs.Written8.{imaginary}
+use Rattle.cyclo24.specs.ExactZ24.{imag_part}
+use Rattle.cyclo24.specs.Z24Calls.{exact_of8, made_low4, made_value4, wide_ok, imag_ready, imag_z24}
 use Rattle.cyclo24.proofs.z24.Z24.imag_part.Goals as goal
 
 pub returns-in_err-part-clause-wide : goal.returns-in_err-part-clause-wide

@@ -1,4 +1,4 @@
-use Rattle.std.proofs.Common.{rules, ◌∙◌, ap, refl, pos, ◌^◌, lit≤}
+use Rattle.std.proofs.Common.{◌∙◌, ap, pos, ◌^◌, lit≤}
 use Rattle.cyclo24.specs.declared.whole.Whole.{Whole}
 use Rattle.cyclo24.specs.CheckedLaws.{below_wide}
 use Rattle.cyclo24.specs.Listed.{is_positive}

@@ -1,4 +1,4 @@
-use Rattle.std.proofs.Common.{rules, ◌≡◌, ◌∙◌, sym, ap, subst, Bool}
+use Rattle.std.proofs.Common.{rules, ◌≡◌, subst, Bool}
 use Rattle.std.specs.Prelude.{IfOk, IsErr, IsTrue, ◌↔◌, refl}
 use Rattle.cyclo24.specs.Z24.{exact_z24}
 use Rattle.cyclo24.specs.K24.{exact24}

@@ -1,10 +1,10 @@
-use Rattle.std.proofs.Common.{rules, refl, ◌≡◌, ◌∙◌, sym, ap, arith}
+use Rattle.std.proofs.Common.{rules, ◌∙◌, sym, ap}
 use Rattle.cyclo24.specs.declared.fraction8.Fraction8.{Fraction8}
 use Rattle.cyclo24.specs.Checked.{answer}
 use Rattle.cyclo24.specs.CheckedLaws.{answer_ok, answer_err}
-use Rattle.cyclo24.specs.Written8.{sum, product, negated, conjugate, real, imaginary, from_four}
-use Rattle.cyclo24.specs.ExactZ24.{z24_laws, conj, real_part, imag_part, from_real}
-use Rattle.cyclo24.specs.Z24Calls.{exact_of8, exact_of4, made_low8, made_value8, made_low4, made_value4, wide_ok, sum_ready8, difference_z24, negated_low, low_positive8, negated_narrow8}
+use Rattle.cyclo24.specs.Written8.{sum, negated}
+use Rattle.cyclo24.specs.ExactZ24.{z24_laws}
+use Rattle.cyclo24.specs.Z24Calls.{exact_of8, made_low8, made_value8, wide_ok, sum_ready8, difference_z24, negated_low}
 use Rattle.cyclo24.proofs.z24.Z24Field.sub.Goals as goal
 
 pub returns-in_err-difference-clause-wide : goal.returns-in_err-difference-clause-wide
