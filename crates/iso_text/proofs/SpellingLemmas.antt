@@ -43,10 +43,10 @@ pub digits_free : (p : ℕ → Bool) (other : (c : ℕ) → is_ascii_digit c ≡
 digits_free p other [] all = tt
 digits_free p other (c ∷ cs) all = let parts = apart (is_ascii_digit c) (list_all is_ascii_digit cs) all in (other c parts.0, digits_free p other cs parts.1)
 
-le_true : (a b : ℕ) → nat_le a b ≡ true → a ≤ b
+pub le_true : (a b : ℕ) → nat_le a b ≡ true → a ≤ b
 le_true a b e = grind (arith, nat_tests)
 
-true_le : (a b : ℕ) → a ≤ b → nat_le a b ≡ true
+pub true_le : (a b : ℕ) → a ≤ b → nat_le a b ≡ true
 true_le a b e = grind (arith, nat_tests)
 
 some_is : {X : Type 0} (x y : X) → x ≡ y → Some x ≡ Some y
@@ -71,7 +71,7 @@ pub whole-complete : (most : ℕ) (text : List ℕ) (n : ℕ) → SpellsWhole mo
 whole-complete most [] n spelled = absurd (omega (arith, spelled.some))
 whole-complete most (c ∷ cs) n spelled = digits-complete most (c ∷ cs) n spelled.spelled
 
-is_this : (a b : ℕ) → (a == b) ≡ true → a ≡ b
+pub is_this : (a b : ℕ) → (a == b) ≡ true → a ≡ b
 is_this a b e = grind (arith, nat_tests)
 
 -- denominators
@@ -92,7 +92,7 @@ choose false x y o e = inr (refl, e)
 one_byte : (a n d : ℕ) → (a == n) ≡ true → a ∷ [] ≡ n ∷ []
 one_byte a n d e = ap (λ c. c ∷ []) (is_this a n e)
 
-none_some : {A : Type 0} {X : Type 0} {y : X} → None ≡ Some y → A
+pub none_some : {A : Type 0} {X : Type 0} {y : X} → None ≡ Some y → A
 none_some e = absurd (cc)
 
 divisor_of_one : (a d : ℕ) → divisor_of (a ∷ []) ≡ Some d → SpellsDivisor (a ∷ []) d
@@ -137,7 +137,7 @@ over-complete (c ∷ cs) d e = (divisor-complete cs d e.1, ap (λ x. x == 47) e.
 digit_no_slash : (c : ℕ) → is_ascii_digit c ≡ true → is_byte 47 c ≡ false
 digit_no_slash c digit = grind (arith, nat_tests)
 
-map_some : {X Y : Type 0} (f : X → Y) (o : Option X) (y : Y) → option_map f o ≡ Some y → (x : X) × (o ≡ Some x) × (f x ≡ y)
+pub map_some : {X Y : Type 0} (f : X → Y) (o : Option X) (y : Y) → option_map f o ≡ Some y → (x : X) × (o ≡ Some x) × (f x ≡ y)
 map_some f None y e = none_some e
 map_some f (Some x) y e = (x, refl, cc)
 
