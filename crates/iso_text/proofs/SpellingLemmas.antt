@@ -97,28 +97,36 @@ none_some e = absurd (cc)
 
 divisor_of_one : (a d : ℕ) → divisor_of (a ∷ []) ≡ Some d → SpellsDivisor (a ∷ []) d
 divisor_of_one a d e = elim (choose (a == 49) 1 d _ e) [
-    inl w ↦ inl (one_byte a 49 d w.0, w.1)
+  | inl w ↦ inl (one_byte a 49 d w.0, w.1)
   | inr w ↦ elim (choose (a == 50) 2 d _ w.1) [
-    inl w ↦ inr (inl (one_byte a 50 d w.0, w.1))
-  | inr w ↦ elim (choose (a == 51) 3 d _ w.1) [
-    inl w ↦ inr (inr (inl (one_byte a 51 d w.0, w.1)))
-  | inr w ↦ elim (choose (a == 52) 4 d _ w.1) [
-    inl w ↦ inr (inr (inr (inl (one_byte a 52 d w.0, w.1))))
-  | inr w ↦ elim (choose (a == 54) 6 d _ w.1) [
-    inl w ↦ inr (inr (inr (inr (inl (one_byte a 54 d w.0, w.1)))))
-  | inr w ↦ elim (choose (a == 56) 8 d None w.1) [
-    inl w ↦ inr (inr (inr (inr (inr (inl (one_byte a 56 d w.0, w.1))))))
-  | inr w ↦ none_some w.1 ] ] ] ] ] ]
+    | inl w ↦ inr (inl (one_byte a 50 d w.0, w.1))
+    | inr w ↦ elim (choose (a == 51) 3 d _ w.1) [
+      | inl w ↦ inr (inr (inl (one_byte a 51 d w.0, w.1)))
+      | inr w ↦ elim (choose (a == 52) 4 d _ w.1) [
+        | inl w ↦ inr (inr (inr (inl (one_byte a 52 d w.0, w.1))))
+        | inr w ↦ elim (choose (a == 54) 6 d _ w.1) [
+          | inl w ↦ inr (inr (inr (inr (inl (one_byte a 54 d w.0, w.1)))))
+          | inr w ↦ elim (choose (a == 56) 8 d None w.1) [
+            | inl w ↦ inr (inr (inr (inr (inr (inl (one_byte a 56 d w.0, w.1))))))
+            | inr w ↦ none_some w.1
+          ]
+        ]
+      ]
+    ]
+  ]
+]
 
 two_bytes : (a b m n : ℕ) → (a == m && b == n) ≡ true → a ∷ b ∷ [] ≡ m ∷ n ∷ []
 two_bytes a b m n e = let parts = apart (a == m) (b == n) e in ap (λ c. c ∷ b ∷ []) (is_this a m parts.0) ∙ ap (λ c. m ∷ c ∷ []) (is_this b n parts.1)
 
 divisor_of_two : (a b d : ℕ) → divisor_of (a ∷ b ∷ []) ≡ Some d → SpellsDivisor (a ∷ b ∷ []) d
 divisor_of_two a b d e = elim (choose (a == 49 && b == 50) 12 d _ e) [
-    inl w ↦ inr (inr (inr (inr (inr (inr (inl (two_bytes a b 49 50 w.0, w.1)))))))
+  | inl w ↦ inr (inr (inr (inr (inr (inr (inl (two_bytes a b 49 50 w.0, w.1)))))))
   | inr w ↦ elim (choose (a == 50 && b == 52) 24 d None w.1) [
-    inl w ↦ inr (inr (inr (inr (inr (inr (inr (two_bytes a b 50 52 w.0, w.1)))))))
-  | inr w ↦ none_some w.1 ] ]
+    | inl w ↦ inr (inr (inr (inr (inr (inr (inr (two_bytes a b 50 52 w.0, w.1)))))))
+    | inr w ↦ none_some w.1
+  ]
+]
 
 pub divisor-sound : (text : List ℕ) (d : ℕ) → divisor_of text ≡ Some d → SpellsDivisor text d
 divisor-sound [] d e = none_some e

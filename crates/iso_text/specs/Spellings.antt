@@ -103,3 +103,7 @@ pub record SpellsPlace (text : List ℕ) (place : ℤ) : Type 0 where
   pub signed_by : IsSignOf negative front
   pub spelled : SpellsUnits body units
   pub value : place ≡ signed negative units
+
+-- a coordinate from 0 to below a quarter of an edge
+abbrev pub SpellsTolerance : List ℕ → ℤ → Type 0
+SpellsTolerance text t = SpellsPlace text t × (n : ℕ) × (t ≡ pos n) × (n < 3000000)
