@@ -23,6 +23,7 @@ mod sections;
 #[cfg(test)]
 mod tests;
 mod text;
+mod word_lists;
 
 pub use document::Document;
 pub use errors::{Failed, NoMemory, TakeError, WriteFault};
