@@ -13,12 +13,12 @@ use Rattle.iso_text.proofs.BodyLemmas.{both, apart}
 use Rattle.iso_text.proofs.Steps.{guard, bind}
 use Rattle.iso_text.proofs.SpellingLemmas.{Stops, Free, front-append, front-back, digits_free, digits-sound, digits-complete, whole-sound, whole-complete, over-sound, over-complete, ratio-sound, ratio-complete, is_this, none_some, map_some, le_true, true_le}
 
-free_all : (p : ℕ → Bool) (w : List ℕ) → Free p w → (front p w ≡ w) × (back p w ≡ [])
+pub free_all : (p : ℕ → Bool) (w : List ℕ) → Free p w → (front p w ≡ w) × (back p w ≡ [])
 free_all p [] free = (refl, refl)
 free_all p (c ∷ w) free = let more = free_all p w free.1 in
     (ap (λ t. if t then [] else c ∷ front p w) free.0 ∙ ap (λ t. c ∷ t) more.0, ap (λ t. if t then c ∷ w else back p w) free.0 ∙ more.1)
 
-Free-append : (p : ℕ → Bool) (a b : List ℕ) → Free p a → Free p b → Free p (a ++ b)
+pub Free-append : (p : ℕ → Bool) (a b : List ℕ) → Free p a → Free p b → Free p (a ++ b)
 Free-append p [] b x y = y
 Free-append p (c ∷ a) b x y = (x.0, Free-append p a b x.1 y)
 

@@ -85,7 +85,7 @@ divisor-complete text d (inr (inr (inr (inr (inr (inl w)))))) = ap divisor_of w.
 divisor-complete text d (inr (inr (inr (inr (inr (inr (inl w))))))) = ap divisor_of w.0 ∙ some_is 12 d (sym w.1)
 divisor-complete text d (inr (inr (inr (inr (inr (inr (inr w))))))) = ap divisor_of w.0 ∙ some_is 24 d (sym w.1)
 
-choose : {X : Type 0} (b : Bool) (x y : X) (o : Option X) → (if b then Some x else o) ≡ Some y → ((b ≡ true) × (y ≡ x)) ⊎ ((b ≡ false) × (o ≡ Some y))
+pub choose : {X : Type 0} (b : Bool) (x y : X) (o : Option X) → (if b then Some x else o) ≡ Some y → ((b ≡ true) × (y ≡ x)) ⊎ ((b ≡ false) × (o ≡ Some y))
 choose true x y o e = inl (refl, cc)
 choose false x y o e = inr (refl, e)
 

@@ -13,3 +13,4 @@ pub mod NumberedGroup
 pub mod Numbers
 pub mod Operations
 pub mod Spellings
+pub mod SumSpellings
