@@ -43,10 +43,10 @@ pub digits_free : (p : ℕ → Bool) (other : (c : ℕ) → is_ascii_digit c ≡
 digits_free p other [] all = tt
 digits_free p other (c ∷ cs) all = let parts = apart (is_ascii_digit c) (list_all is_ascii_digit cs) all in (other c parts.0, digits_free p other cs parts.1)
 
-le_true : (a b : ℕ) → nat_le a b ≡ true → a ≤ b
+pub le_true : (a b : ℕ) → nat_le a b ≡ true → a ≤ b
 le_true a b e = grind (arith, nat_tests)
 
-true_le : (a b : ℕ) → a ≤ b → nat_le a b ≡ true
+pub true_le : (a b : ℕ) → a ≤ b → nat_le a b ≡ true
 true_le a b e = grind (arith, nat_tests)
 
 some_is : {X : Type 0} (x y : X) → x ≡ y → Some x ≡ Some y
@@ -71,7 +71,7 @@ pub whole-complete : (most : ℕ) (text : List ℕ) (n : ℕ) → SpellsWhole mo
 whole-complete most [] n spelled = absurd (omega (arith, spelled.some))
 whole-complete most (c ∷ cs) n spelled = digits-complete most (c ∷ cs) n spelled.spelled
 
-is_this : (a b : ℕ) → (a == b) ≡ true → a ≡ b
+pub is_this : (a b : ℕ) → (a == b) ≡ true → a ≡ b
 is_this a b e = grind (arith, nat_tests)
 
 -- denominators
@@ -85,40 +85,48 @@ divisor-complete text d (inr (inr (inr (inr (inr (inl w)))))) = ap divisor_of w.
 divisor-complete text d (inr (inr (inr (inr (inr (inr (inl w))))))) = ap divisor_of w.0 ∙ some_is 12 d (sym w.1)
 divisor-complete text d (inr (inr (inr (inr (inr (inr (inr w))))))) = ap divisor_of w.0 ∙ some_is 24 d (sym w.1)
 
-choose : {X : Type 0} (b : Bool) (x y : X) (o : Option X) → (if b then Some x else o) ≡ Some y → ((b ≡ true) × (y ≡ x)) ⊎ ((b ≡ false) × (o ≡ Some y))
+pub choose : {X : Type 0} (b : Bool) (x y : X) (o : Option X) → (if b then Some x else o) ≡ Some y → ((b ≡ true) × (y ≡ x)) ⊎ ((b ≡ false) × (o ≡ Some y))
 choose true x y o e = inl (refl, cc)
 choose false x y o e = inr (refl, e)
 
 one_byte : (a n d : ℕ) → (a == n) ≡ true → a ∷ [] ≡ n ∷ []
 one_byte a n d e = ap (λ c. c ∷ []) (is_this a n e)
 
-none_some : {A : Type 0} {X : Type 0} {y : X} → None ≡ Some y → A
+pub none_some : {A : Type 0} {X : Type 0} {y : X} → None ≡ Some y → A
 none_some e = absurd (cc)
 
 divisor_of_one : (a d : ℕ) → divisor_of (a ∷ []) ≡ Some d → SpellsDivisor (a ∷ []) d
 divisor_of_one a d e = elim (choose (a == 49) 1 d _ e) [
-    inl w ↦ inl (one_byte a 49 d w.0, w.1)
+  | inl w ↦ inl (one_byte a 49 d w.0, w.1)
   | inr w ↦ elim (choose (a == 50) 2 d _ w.1) [
-    inl w ↦ inr (inl (one_byte a 50 d w.0, w.1))
-  | inr w ↦ elim (choose (a == 51) 3 d _ w.1) [
-    inl w ↦ inr (inr (inl (one_byte a 51 d w.0, w.1)))
-  | inr w ↦ elim (choose (a == 52) 4 d _ w.1) [
-    inl w ↦ inr (inr (inr (inl (one_byte a 52 d w.0, w.1))))
-  | inr w ↦ elim (choose (a == 54) 6 d _ w.1) [
-    inl w ↦ inr (inr (inr (inr (inl (one_byte a 54 d w.0, w.1)))))
-  | inr w ↦ elim (choose (a == 56) 8 d None w.1) [
-    inl w ↦ inr (inr (inr (inr (inr (inl (one_byte a 56 d w.0, w.1))))))
-  | inr w ↦ none_some w.1 ] ] ] ] ] ]
+    | inl w ↦ inr (inl (one_byte a 50 d w.0, w.1))
+    | inr w ↦ elim (choose (a == 51) 3 d _ w.1) [
+      | inl w ↦ inr (inr (inl (one_byte a 51 d w.0, w.1)))
+      | inr w ↦ elim (choose (a == 52) 4 d _ w.1) [
+        | inl w ↦ inr (inr (inr (inl (one_byte a 52 d w.0, w.1))))
+        | inr w ↦ elim (choose (a == 54) 6 d _ w.1) [
+          | inl w ↦ inr (inr (inr (inr (inl (one_byte a 54 d w.0, w.1)))))
+          | inr w ↦ elim (choose (a == 56) 8 d None w.1) [
+            | inl w ↦ inr (inr (inr (inr (inr (inl (one_byte a 56 d w.0, w.1))))))
+            | inr w ↦ none_some w.1
+          ]
+        ]
+      ]
+    ]
+  ]
+]
 
 two_bytes : (a b m n : ℕ) → (a == m && b == n) ≡ true → a ∷ b ∷ [] ≡ m ∷ n ∷ []
 two_bytes a b m n e = let parts = apart (a == m) (b == n) e in ap (λ c. c ∷ b ∷ []) (is_this a m parts.0) ∙ ap (λ c. m ∷ c ∷ []) (is_this b n parts.1)
 
 divisor_of_two : (a b d : ℕ) → divisor_of (a ∷ b ∷ []) ≡ Some d → SpellsDivisor (a ∷ b ∷ []) d
 divisor_of_two a b d e = elim (choose (a == 49 && b == 50) 12 d _ e) [
-    inl w ↦ inr (inr (inr (inr (inr (inr (inl (two_bytes a b 49 50 w.0, w.1)))))))
+  | inl w ↦ inr (inr (inr (inr (inr (inr (inl (two_bytes a b 49 50 w.0, w.1)))))))
   | inr w ↦ elim (choose (a == 50 && b == 52) 24 d None w.1) [
-    inl w ↦ inr (inr (inr (inr (inr (inr (inr (two_bytes a b 50 52 w.0, w.1)))))))
-  | inr w ↦ none_some w.1 ] ]
+    | inl w ↦ inr (inr (inr (inr (inr (inr (inr (two_bytes a b 50 52 w.0, w.1)))))))
+    | inr w ↦ none_some w.1
+  ]
+]
 
 pub divisor-sound : (text : List ℕ) (d : ℕ) → divisor_of text ≡ Some d → SpellsDivisor text d
 divisor-sound [] d e = none_some e
@@ -137,7 +145,7 @@ over-complete (c ∷ cs) d e = (divisor-complete cs d e.1, ap (λ x. x == 47) e.
 digit_no_slash : (c : ℕ) → is_ascii_digit c ≡ true → is_byte 47 c ≡ false
 digit_no_slash c digit = grind (arith, nat_tests)
 
-map_some : {X Y : Type 0} (f : X → Y) (o : Option X) (y : Y) → option_map f o ≡ Some y → (x : X) × (o ≡ Some x) × (f x ≡ y)
+pub map_some : {X Y : Type 0} (f : X → Y) (o : Option X) (y : Y) → option_map f o ≡ Some y → (x : X) × (o ≡ Some x) × (f x ≡ y)
 map_some f None y e = none_some e
 map_some f (Some x) y e = (x, refl, cc)
 

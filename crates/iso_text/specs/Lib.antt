@@ -16,3 +16,4 @@ pub mod Numbers
 pub mod Operations
 pub mod Spellings
 pub mod Streams
+pub mod SumSpellings

@@ -56,3 +56,54 @@ pub record SpellsKFraction (text : List ℕ) (v : Frac) : Type 0 where
   pub small : num ≤ 24
   pub divisor : den ≤ 6
   pub value : v ≡ lowest negative num den
+
+-- a plus or minus sign, or nothing
+abbrev pub IsSignOf : Bool → List ℕ → Type 0
+IsSignOf negative text = ((negative ≡ true) × (text ≡ codes "-")) ⊎ ((negative ≡ false) × (text ≡ codes "+")) ⊎ ((negative ≡ false) × (text ≡ []))
+
+-- whole edges alone: one or two digits
+abbrev pub SpellsWholeEdges : List ℕ → ℕ → Type 0
+SpellsWholeEdges body units = (n : ℕ) × SpellsWhole 2 body n × (units ≡ edge_units * n)
+
+-- up to two digits, the point, and up to six digits, one digit at least in all
+pub record SpellsDecimal (body : List ℕ) (units : ℕ) : Type 0 where
+  pub edges : List ℕ
+  pub digits : List ℕ
+  pub whole : ℕ
+  pub part : ℕ
+  pub joined : body ≡ edges ++ (codes "." ++ digits)
+  pub before : SpellsDigits 2 edges whole
+  pub behind : SpellsDigits 6 digits part
+  pub some : 0 < length edges + length digits
+  pub value : units ≡ point_units whole part (length digits)
+
+-- a fraction of at most 99, its numerator of one to four digits, over a denominator behind a `/`
+pub record SpellsFraction (body : List ℕ) (units : ℕ) : Type 0 where
+  pub digits : List ℕ
+  pub divisor : List ℕ
+  pub num : ℕ
+  pub den : ℕ
+  pub joined : body ≡ digits ++ (codes "/" ++ divisor)
+  pub whole : SpellsWhole 4 digits num
+  pub over : SpellsDivisor divisor den
+  pub small : num ≤ 99 * den
+  pub value : units ≡ num * (edge_units / den)
+
+-- the units of a coordinate without its sign
+abbrev pub SpellsUnits : List ℕ → ℕ → Type 0
+SpellsUnits body units = SpellsWholeEdges body units ⊎ SpellsDecimal body units ⊎ SpellsFraction body units
+
+-- a coordinate: an optional sign and its units
+pub record SpellsPlace (text : List ℕ) (place : ℤ) : Type 0 where
+  pub negative : Bool
+  pub front : List ℕ
+  pub body : List ℕ
+  pub units : ℕ
+  pub joined : text ≡ front ++ body
+  pub signed_by : IsSignOf negative front
+  pub spelled : SpellsUnits body units
+  pub value : place ≡ signed negative units
+
+-- a coordinate from 0 to below a quarter of an edge
+abbrev pub SpellsTolerance : List ℕ → ℤ → Type 0
+SpellsTolerance text t = SpellsPlace text t × (n : ℕ) × (t ≡ pos n) × (n < 3000000)

@@ -6,11 +6,12 @@ ghost use Rattle.iso_text.specs.Draft.{draft, settled, on_head, on_hall, takes_b
 
 use crate::NoMemory;
 use crate::document::Document;
-use crate::line_kinds::{IrrepLine, Line, is_same};
+use crate::line_kinds::{IrrepLine, Line};
 use crate::name::Name;
 use crate::numbers::Frac;
 use crate::sections::{AtomText, IrrepText, MatList, MatText};
 use crate::text::Text;
+use crate::word_lists::is_same;
 use std::alloc::Global;
 
 /// The most irrep blocks of a file.

@@ -1,6 +1,8 @@
 // Fractions, coordinates and tolerances in words.
-ghost use Rattle.std.specs.Prelude.{◌≡◌, ◌^◌, ◌<◌, ◌≤◌, IfSome, length};
+ghost use Rattle.std.specs.Prelude.{◌≡◌, ◌^◌, ◌<◌, ◌≤◌, IfSome, length, MatchOption, ℤ};
 ghost use Rattle.iso_text.specs.Fractions.{signed, common_divisor, lowest, k_ratio_of, k_fraction_of, ratio_units, point_units, decimal_units, units_by, units_of, place_of, is_tolerance, tolerance_of};
+ghost use Rattle.iso_text.specs.Spellings.{SpellsKFraction, SpellsPlace, SpellsTolerance};
+ghost use Rattle.iso_text.specs.declared.numbers.Frac.{Frac};
 
 use crate::cuts::{Mark, split_at_mark};
 use crate::digits::{digits, ratio, whole};
@@ -72,9 +74,7 @@ fn k_ratio(negative: bool, ratio: (u32, u8)) -> Option<Frac>
     }
 }
 
-/// The fraction of a wave vector that a text is: an optional `-`, one or two digits of at most 24,
-/// and optionally `/` and one of 1, 2, 3, 4, 6. It is in lowest terms.
-pub fn k_fraction(text: &[u8]) -> Option<Frac>
+fn parse_k_fraction(text: &[u8]) -> Option<Frac>
     ensures { result ≡ k_fraction_of text.now }
 {
     match text {
@@ -82,6 +82,15 @@ pub fn k_fraction(text: &[u8]) -> Option<Frac>
         [b'-', digits @ ..] => k_ratio(true, ratio(digits, 2)?),
         _ => k_ratio(false, ratio(text, 2)?),
     }
+}
+
+/// The fraction of a wave vector that a text is: an optional `-`, one or two digits of at most 24,
+/// and optionally `/` and one of 1, 2, 3, 4, 6. It is in lowest terms.
+pub fn k_fraction(text: &[u8]) -> Option<Frac>
+    ensures value { result ≡ k_fraction_of text.now }
+    ensures spelled { MatchOption result ((v : Frac) → SpellsKFraction text.now v → ⊥) (λ v. SpellsKFraction text.now v) }
+{
+    parse_k_fraction(text)
 }
 
 fn units_of_ratio(ratio: (u32, u8)) -> Option<u64>
@@ -146,9 +155,7 @@ fn units(text: &[u8]) -> Option<u64>
     units_by(over, text)
 }
 
-/// The coordinate that a text is, in units of 1/12,000,000 of a cell edge: an optional sign and a
-/// fraction of at most 99, or a decimal of at most two digits before the point and six behind it.
-pub fn place(text: &[u8]) -> Option<i64>
+fn parse_place(text: &[u8]) -> Option<i64>
     ensures { result ≡ place_of text.now }
 {
     match text {
@@ -159,14 +166,22 @@ pub fn place(text: &[u8]) -> Option<i64>
     }
 }
 
+/// The coordinate that a text is, in units of 1/12,000,000 of a cell edge: an optional sign and a
+/// fraction of at most 99, or a decimal of at most two digits before the point and six behind it.
+pub fn place(text: &[u8]) -> Option<i64>
+    ensures value { result ≡ place_of text.now }
+    ensures spelled { MatchOption result ((units : ℤ) → SpellsPlace text.now units → ⊥) (λ units. SpellsPlace text.now units) }
+{
+    parse_place(text)
+}
+
 fn is_tolerance(place: i64) -> bool
     ensures { result ≡ is_tolerance place }
 {
     place >= 0 && place < 3_000_000
 }
 
-/// The tolerance that a text is: a coordinate from 0 to below 1/4.
-pub fn tolerance(text: &[u8]) -> Option<i64>
+fn parse_tolerance(text: &[u8]) -> Option<i64>
     ensures { result ≡ tolerance_of text.now }
 {
     let place = place(text)?;
@@ -175,4 +190,12 @@ pub fn tolerance(text: &[u8]) -> Option<i64>
     } else {
         None
     }
+}
+
+/// The tolerance that a text is: a coordinate from 0 to below 1/4.
+pub fn tolerance(text: &[u8]) -> Option<i64>
+    ensures value { result ≡ tolerance_of text.now }
+    ensures spelled { MatchOption result ((units : ℤ) → SpellsTolerance text.now units → ⊥) (λ units. SpellsTolerance text.now units) }
+{
+    parse_tolerance(text)
 }

@@ -30,6 +30,7 @@ mod source;
 #[cfg(test)]
 mod tests;
 mod text;
+mod word_lists;
 
 pub use document::Document;
 pub use errors::{Failed, NoMemory, TakeError, WriteFault};

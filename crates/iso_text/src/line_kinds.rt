@@ -16,6 +16,7 @@ use crate::numbers::Frac;
 use crate::operation_words::operation;
 use crate::sections::{AtomText, MatText};
 use crate::text::Text;
+use crate::word_lists::{four_words, is_same, one_word, three_words, two_words};
 use std::alloc::Global;
 
 /// The first word of a line.
@@ -56,12 +57,6 @@ pub enum Line {
     End,
 }
 
-pub fn is_same(word: &[u8], text: &[u8]) -> bool
-    ensures { result ≡ bytes_eq word.now text.now }
-{
-    word == text
-}
-
 fn find_keyword(word: &[u8]) -> Option<Keyword>
     ensures { result ≡ keyword_of word.now }
 {
@@ -86,40 +81,6 @@ fn find_keyword(word: &[u8]) -> Option<Keyword>
     } else {
         None
     }
-}
-
-fn one_word(text: &[u8]) -> Option<&[u8]>
-    ensures { option_copied result ≡ one (words_of text.now) }
-{
-    let (word, rest) = first_word(text)?;
-    match first_word(rest) {
-        None => Some(word),
-        Some(_) => None,
-    }
-}
-
-fn two_words(text: &[u8]) -> Option<(&[u8], &[u8])>
-    ensures { option_map (λ w. (w.0.now, w.1.now)) result ≡ two (words_of text.now) }
-{
-    let (a, rest) = first_word(text)?;
-    let b = one_word(rest)?;
-    Some((a, b))
-}
-
-fn three_words(text: &[u8]) -> Option<(&[u8], &[u8], &[u8])>
-    ensures { option_map (λ w. (w.0.now, w.1.now, w.2.now)) result ≡ three (words_of text.now) }
-{
-    let (a, rest) = first_word(text)?;
-    let (b, c) = two_words(rest)?;
-    Some((a, b, c))
-}
-
-fn four_words(text: &[u8]) -> Option<(&[u8], &[u8], &[u8], &[u8])>
-    ensures { option_map (λ w. (w.0.now, w.1.now, w.2.now, w.3.now)) result ≡ four (words_of text.now) }
-{
-    let (a, rest) = first_word(text)?;
-    let (b, c, d) = three_words(rest)?;
-    Some((a, b, c, d))
 }
 
 fn head(text: &[u8]) -> Option<Line>

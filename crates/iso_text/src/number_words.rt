@@ -1,6 +1,8 @@
 // Numbers in words.
-ghost use Rattle.std.specs.Prelude.{◌≡◌, ◌<◌, ◌≤◌, IfSome, IfOk, length};
+ghost use Rattle.std.specs.Prelude.{◌≡◌, ◌<◌, ◌≤◌, IfSome, IfOk, length, MatchOption};
 ghost use Rattle.iso_text.specs.Numbers.{power_of_z, root_of, unit_of, coefficient_of, term, alone, product_of, term_of, signed_term_of, terms_of, number_of};
+ghost use Rattle.iso_text.specs.SumSpellings.{SpellsTerm};
+ghost use Rattle.iso_text.specs.declared.numbers.Term.{Term};
 
 use crate::NoMemory;
 use crate::cuts::{Mark, first_cut, split_at_mark};
@@ -94,7 +96,8 @@ fn product(negative: bool, text: &[u8], rest: &[u8]) -> Option<Term>
 }
 
 fn term(negative: bool, text: &[u8]) -> Option<Term>
-    ensures { result ≡ term_of negative text.now }
+    ensures value { result ≡ term_of negative text.now }
+    ensures spelled { MatchOption result ((t : Term) → SpellsTerm negative text.now t → ⊥) (λ t. SpellsTerm negative text.now t) }
 {
     let (front, back) = split_at_mark(text, Mark::Byte(b'*'));
     product(negative, front, back)
