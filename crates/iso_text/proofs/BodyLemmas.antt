@@ -1,10 +1,10 @@
 -- The lines of a file that grows by one line or one block.
-use Rattle.std.proofs.Common.{◌≡◌, ℕ, ℤ, ◌+◌, ◌<◌, ◌≤◌, Bool, true, false, List, [], ◌∷◌, ◌++◌, length, map, Option, Some, None, refl, sym, ◌∙◌, ap, arith, append_assoc, append-nil, length-append, ◌&&◌, nat_lt, nat_le}
+use Rattle.std.proofs.Common.{◌≡◌, ℕ, ℤ, Bool, true, false, List, [], ◌∷◌, ◌++◌, map, Option, Some, None, refl, sym, ◌∙◌, ap, append_assoc, append-nil, ◌&&◌}
 use Rattle.std.specs.List.{flat_map, list_all}
 use Rattle.std.proofs.lemmas.Grind.{flat_map-append}
 use Rattle.std.proofs.lemmas.List.{map-append}
 use Rattle.std.proofs.lemmas.List.Folds.{list_all-append}
-use Rattle.iso_text.specs.File.{block_lines, tolerance_lines, is_block, is_new, have_new_names}
+use Rattle.iso_text.specs.File.{block_lines, tolerance_lines, is_new, have_new_names}
 use Rattle.iso_text.specs.declared.line_kinds.Line.{Line}
 use Rattle.iso_text.specs.declared.line_kinds.Line.TheVariants.{Head, Hall, Atom, Tolerance, Listed}
 use Rattle.iso_text.specs.declared.sections.AtomText.{AtomText}

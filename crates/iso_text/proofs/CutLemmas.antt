@@ -1,7 +1,6 @@
 -- Fronts and backs of a text, and its cuts.
-use Rattle.std.proofs.Common.{◌≡◌, ℕ, zero, suc, ◌+◌, ◌<◌, ◌≤◌, Bool, true, false, List, [], ◌∷◌, ◌++◌, length, take, drop, get_or, refl, sym, ◌∙◌, ap, arith, append_assoc, if◌then◌else◌, add-one}
-use Rattle.std.proofs.lemmas.List.{take_more, drop_more, at_drop_more, at_drop_all}
-use Rattle.std.proofs.lemmas.Grind.{common_steps}
+use Rattle.std.proofs.Common.{◌≡◌, ℕ, ◌+◌, ◌<◌, Bool, true, false, List, [], ◌∷◌, ◌++◌, length, take, drop, get_or, refl, sym, ◌∙◌, ap, arith, append_assoc, if◌then◌else◌, add-one}
+use Rattle.std.proofs.lemmas.List.{take_more, drop_more, at_drop_more}
 use Rattle.iso_text.specs.Cuts.{front, back, begins, onto_first, cut_at, words_of, is_blank}
 
 -- a byte that isn't picked

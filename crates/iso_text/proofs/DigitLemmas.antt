@@ -1,5 +1,5 @@
 -- Bounds on numbers of a few digits.
-use Rattle.std.proofs.Common.{◌≡◌, ℕ, zero, suc, ◌+◌, ◌-◌, ◌*◌, ◌^◌, ◌<◌, ◌≤◌, refl, arith, lit≤, add-one}
+use Rattle.std.proofs.Common.{ℕ, zero, suc, ◌+◌, ◌-◌, ◌*◌, ◌^◌, ◌<◌, ◌≤◌, arith, lit≤, add-one}
 use Rattle.std.proofs.Math.Nat.{pow-suc}
 
 pub ten_power : (i : ℕ) → i ≤ 6 → 10 ^ i ≤ 1000000

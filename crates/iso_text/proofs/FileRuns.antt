@@ -1,19 +1,19 @@
 -- Each file runs to its end, and each draft can be completed to a file.
-use Rattle.std.proofs.Common.{◌≡◌, ℕ, ℤ, zero, suc, ◌+◌, ◌*◌, ◌<◌, ◌≤◌, ◌==◌, Bool, true, false, List, [], ◌∷◌, ◌++◌, length, replicate, map, Option, Some, None, refl, sym, ◌∙◌, ap, subst, arith, ◌&&◌, nat_lt, nat_le, append_assoc, append-nil, length-append, if◌then◌else◌}
-use Rattle.std.specs.Prelude.{option_and_then, filter, is_none, is_some}
+use Rattle.std.proofs.Common.{◌≡◌, ℕ, ℤ, suc, ◌+◌, ◌*◌, ◌≤◌, ◌==◌, Bool, true, false, List, [], ◌∷◌, ◌++◌, length, replicate, map, Option, Some, None, refl, sym, ◌∙◌, ap, subst, arith, ◌&&◌, nat_lt, nat_le, append_assoc, append-nil, length-append, if◌then◌else◌}
+use Rattle.std.specs.Prelude.{option_and_then, is_none, is_some}
 use Rattle.std.specs.List.{list_all, flat_map}
-use Rattle.std.proofs.lemmas.Bool.{ltb-true, lt-ltb}
+use Rattle.std.proofs.lemmas.Bool.{lt-ltb}
 use Rattle.std.proofs.lemmas.Bool.Decides.{nat_tests}
 use Rattle.std.proofs.lemmas.List.{length-replicate}
 use Rattle.iso_text.specs.FileValue.{File, file_with_hall}
-use Rattle.iso_text.specs.File.{IsSound, body_lines, block_lines, file_lines, tolerance_lines, has_entries, is_block, is_new, have_new_names}
-use Rattle.iso_text.specs.Draft.{draft, settled, takes_block, on_irrep, takes_mat, on_mat, on_atom, on_tolerance, on_listed, on_section, next_of, begin}
+use Rattle.iso_text.specs.File.{IsSound, block_lines, file_lines, tolerance_lines, has_entries, is_block, is_new, have_new_names}
+use Rattle.iso_text.specs.Draft.{draft, settled, takes_block, on_irrep, takes_mat, on_atom, on_tolerance, on_listed, on_section, begin}
 use Rattle.iso_text.specs.declared.draft.Draft.{Draft}
 use Rattle.iso_text.specs.declared.draft.Stage.{Stage}
 use Rattle.iso_text.specs.declared.draft.Stage.TheVariants.{Begin, Headed, Body, Open, Block, Done}
 use Rattle.iso_text.specs.declared.line_kinds.IrrepLine.{IrrepLine}
 use Rattle.iso_text.specs.declared.line_kinds.Line.{Line}
-use Rattle.iso_text.specs.declared.line_kinds.Line.TheVariants.{Skip, Bad, Head, Hall, Irrep, K, Mat, Atom, Tolerance, Listed, End}
+use Rattle.iso_text.specs.declared.line_kinds.Line.TheVariants.{Head, Hall, K, Mat, Atom, Listed, End}
 use Rattle.iso_text.specs.declared.sections.AtomText.{AtomText}
 use Rattle.iso_text.specs.declared.sections.IrrepText.{IrrepText}
 use Rattle.iso_text.specs.declared.sections.MatText.{MatText}

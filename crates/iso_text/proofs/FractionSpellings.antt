@@ -1,13 +1,12 @@
 -- The grammar of k fractions against their function.
-use Rattle.std.proofs.Common.{◌≡◌, ℕ, ℤ, zero, suc, ◌+◌, ◌-◌, ◌*◌, ◌/◌, ◌<◌, ◌≤◌, ◌==◌, Bool, true, false, List, [], ◌∷◌, ◌++◌, length, Option, Some, None, refl, sym, ◌∙◌, ap, subst, arith, ◌&&◌, ◌||◌, nat_lt, nat_le, if◌then◌else◌, inl, inr, MatchOption}
-use Rattle.std.specs.Prelude.{option_and_then, ◌⊎◌}
-use Rattle.std.specs.Option.{option_map}
+use Rattle.std.proofs.Common.{◌≡◌, ℕ, ◌<◌, ◌≤◌, ◌==◌, Bool, true, false, List, [], ◌∷◌, ◌++◌, length, Option, Some, None, refl, sym, ◌∙◌, ap, arith, ◌&&◌, nat_le, if◌then◌else◌, MatchOption}
+use Rattle.std.specs.Prelude.{option_and_then}
 use Rattle.std.specs.List.{list_all}
 use Rattle.std.specs.Char.{is_ascii_digit}
 use Rattle.std.proofs.lemmas.Bool.Decides.{nat_tests}
 use Rattle.iso_text.specs.Digits.{ratio_of}
-use Rattle.iso_text.specs.Fractions.{signed, lowest, k_ratio_of, k_fraction_of}
-use Rattle.iso_text.specs.Spellings.{SpellsDigits, SpellsWhole, SpellsRatio, minus, SpellsKFraction}
+use Rattle.iso_text.specs.Fractions.{lowest, k_ratio_of, k_fraction_of}
+use Rattle.iso_text.specs.Spellings.{SpellsRatio, minus, SpellsKFraction}
 use Rattle.iso_text.specs.declared.numbers.Frac.{Frac}
 use Rattle.iso_text.proofs.BodyLemmas.{both, apart}
 use Rattle.iso_text.proofs.Steps.{guard, bind}

@@ -1,17 +1,15 @@
 -- The grammar of coordinates against their function.
-use Rattle.std.proofs.Common.{◌≡◌, ℕ, ℤ, zero, suc, ◌+◌, ◌-◌, ◌*◌, ◌/◌, ◌<◌, ◌≤◌, ◌==◌, Bool, true, false, List, [], ◌∷◌, ◌++◌, length, Option, Some, None, refl, sym, ◌∙◌, ap, subst, arith, ◌&&◌, ◌||◌, nat_le, if◌then◌else◌, inl, inr, append-nil, length-append}
-use Rattle.std.specs.Prelude.{option_and_then, ◌⊎◌}
+use Rattle.std.proofs.Common.{◌≡◌, ℕ, ◌+◌, ◌*◌, ◌/◌, ◌<◌, Bool, true, false, List, [], ◌∷◌, ◌++◌, length, Some, None, refl, sym, ◌∙◌, ap, subst, arith, nat_le, if◌then◌else◌, inl, inr, append-nil}
+use Rattle.std.specs.Prelude.{option_and_then}
 use Rattle.std.specs.Option.{option_map}
-use Rattle.std.specs.List.{list_all}
 use Rattle.std.specs.Char.{is_ascii_digit}
 use Rattle.std.proofs.lemmas.Bool.Decides.{nat_tests}
 use Rattle.iso_text.specs.Cuts.{front, back, is_byte, is_sign}
-use Rattle.iso_text.specs.Digits.{decimal, digits_of, whole_of, over_of, ratio_of}
-use Rattle.iso_text.specs.Fractions.{signed, edge_units, ratio_units, point_units, decimal_units, units_by, units_of, place_of}
-use Rattle.iso_text.specs.Spellings.{SpellsDigits, SpellsWhole, SpellsDivisor, SpellsOver, SpellsRatio, SpellsWholeEdges, SpellsDecimal, SpellsFraction, SpellsUnits, IsSignOf, SpellsPlace}
-use Rattle.iso_text.proofs.BodyLemmas.{both, apart}
+use Rattle.iso_text.specs.Digits.{digits_of, whole_of, over_of, ratio_of}
+use Rattle.iso_text.specs.Fractions.{edge_units, ratio_units, point_units, decimal_units, units_by, units_of}
+use Rattle.iso_text.specs.Spellings.{SpellsDigits, SpellsWhole, SpellsDivisor, SpellsRatio, SpellsDecimal, SpellsFraction, SpellsUnits}
 use Rattle.iso_text.proofs.Steps.{guard, bind}
-use Rattle.iso_text.proofs.SpellingLemmas.{Stops, Free, front-append, front-back, digits_free, digits-sound, digits-complete, whole-sound, whole-complete, over-sound, over-complete, ratio-sound, ratio-complete, is_this, none_some, map_some, le_true, true_le}
+use Rattle.iso_text.proofs.SpellingLemmas.{Stops, Free, front-append, front-back, digits_free, digits-sound, digits-complete, whole-sound, whole-complete, over-sound, ratio-complete, is_this, map_some, le_true, true_le}
 
 pub free_all : (p : ℕ → Bool) (w : List ℕ) → Free p w → (front p w ≡ w) × (back p w ≡ [])
 free_all p [] free = (refl, refl)

@@ -1,13 +1,10 @@
 -- Whole runs of a draft over lines, and how each can be completed.
-use Rattle.std.proofs.Common.{◌≡◌, ℕ, ℤ, zero, suc, ◌+◌, ◌*◌, ◌<◌, ◌≤◌, ◌==◌, Bool, true, false, List, [], ◌∷◌, ◌++◌, length, replicate, Option, Some, None, refl, sym, ◌∙◌, ap, subst, arith, ◌&&◌, nat_lt, append_assoc, append-nil, length-append, map, if◌then◌else◌}
+use Rattle.std.proofs.Common.{◌≡◌, ℕ, List, [], ◌∷◌, ◌++◌, length, Option, Some, None, refl, sym, ◌∙◌, ap, subst, arith, nat_lt, append_assoc, append-nil, length-append}
 use Rattle.std.specs.Prelude.{option_and_then, filter}
-use Rattle.std.specs.List.{list_all}
 use Rattle.std.proofs.lemmas.Bool.{ltb-true}
-use Rattle.std.proofs.lemmas.Bool.Decides.{nat_tests}
-use Rattle.std.proofs.lemmas.List.{length-replicate}
 use Rattle.iso_text.specs.FileValue.{File, file_with_hall}
-use Rattle.iso_text.specs.File.{IsSound, IsFileOf, IsStartOf, body_lines, block_lines, file_lines, has_entries, is_kept}
-use Rattle.iso_text.specs.Draft.{draft, settled, on_head, on_hall, on_k, takes_mat, on_mat, on_section, next_of, begin}
+use Rattle.iso_text.specs.File.{IsSound, body_lines, block_lines, has_entries, is_kept}
+use Rattle.iso_text.specs.Draft.{draft, settled, on_head, on_hall, on_k, takes_mat, on_mat, on_section, next_of}
 use Rattle.iso_text.specs.declared.draft.Draft.{Draft}
 use Rattle.iso_text.specs.declared.draft.Stage.{Stage}
 use Rattle.iso_text.specs.declared.draft.Stage.TheVariants.{Begin, Headed, Body, Open, Block, Done}
@@ -16,8 +13,8 @@ use Rattle.iso_text.specs.declared.line_kinds.Line.TheVariants.{Skip, Bad, Head,
 use Rattle.iso_text.specs.declared.numbers.Frac.{Frac}
 use Rattle.iso_text.specs.declared.sections.IrrepText.{IrrepText}
 use Rattle.iso_text.specs.declared.sections.MatText.{MatText}
-use Rattle.iso_text.proofs.BodyLemmas.{both, apart, all-snoc}
-use Rattle.iso_text.proofs.Steps.{lines_at, IsAt, TakesBlock, HasBlock, Holds, guard, bind, settled_keeps, section_keeps}
+use Rattle.iso_text.proofs.BodyLemmas.{apart, all-snoc}
+use Rattle.iso_text.proofs.Steps.{lines_at, IsAt, Holds, guard, bind, settled_keeps, section_keeps}
 use Rattle.std.proofs.lemmas.List.{map-append}
 
 head_keeps : (stage : Stage) (f : File) (e : Draft) → on_head stage f ≡ Some e → Holds e (lines_at stage f ++ Head ∷ [])

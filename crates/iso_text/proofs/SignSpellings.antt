@@ -1,6 +1,6 @@
 -- The grammar of coordinates with their signs, and of tolerances, against their functions.
-use Rattle.std.proofs.Common.{◌≡◌, ℕ, ℤ, pos, negsuc, zero, suc, ◌+◌, ◌<◌, ◌≤◌, ◌==◌, Bool, true, false, List, [], ◌∷◌, ◌++◌, length, Option, Some, None, refl, sym, ◌∙◌, ap, subst, arith, ◌&&◌, ◌||◌, nat_lt, if◌then◌else◌, inl, inr}
-use Rattle.std.specs.Prelude.{option_and_then, ◌⊎◌}
+use Rattle.std.proofs.Common.{◌≡◌, ℕ, ℤ, pos, negsuc, ◌<◌, ◌==◌, Bool, true, false, List, [], ◌∷◌, ◌++◌, length, Some, None, refl, sym, ◌∙◌, ap, subst, arith, if◌then◌else◌, inl, inr}
+use Rattle.std.specs.Prelude.{option_and_then}
 use Rattle.std.specs.Option.{option_map}
 use Rattle.std.specs.List.{list_all}
 use Rattle.std.specs.Char.{is_ascii_digit}
@@ -8,8 +8,8 @@ use Rattle.std.proofs.lemmas.Bool.{ltb-true, lt-ltb}
 use Rattle.std.proofs.lemmas.Bool.Decides.{nat_tests}
 use Rattle.iso_text.specs.Cuts.{is_sign}
 use Rattle.iso_text.specs.Fractions.{signed, units_of, place_of, is_tolerance, tolerance_of}
-use Rattle.iso_text.specs.Spellings.{SpellsDecimal, SpellsFraction, SpellsUnits, IsSignOf, SpellsPlace, SpellsTolerance}
-use Rattle.iso_text.proofs.BodyLemmas.{both, apart}
+use Rattle.iso_text.specs.Spellings.{SpellsUnits, IsSignOf, SpellsPlace, SpellsTolerance}
+use Rattle.iso_text.proofs.BodyLemmas.{apart}
 use Rattle.iso_text.proofs.Steps.{guard, bind}
 use Rattle.iso_text.proofs.SpellingLemmas.{is_this, none_some, map_some}
 use Rattle.iso_text.proofs.PlaceSpellings.{units-sound, units-complete}

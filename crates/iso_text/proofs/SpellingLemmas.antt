@@ -1,5 +1,5 @@
 -- The grammar of words against the functions that readers compute.
-use Rattle.std.proofs.Common.{◌≡◌, ℕ, ℤ, zero, suc, ◌+◌, ◌-◌, ◌*◌, ◌<◌, ◌≤◌, ◌==◌, Bool, true, false, List, [], ◌∷◌, ◌++◌, length, Option, Some, None, refl, sym, ◌∙◌, ap, subst, arith, ◌&&◌, ◌||◌, nat_lt, nat_le, if◌then◌else◌, inl, inr, MatchOption}
+use Rattle.std.proofs.Common.{◌≡◌, ℕ, ◌≤◌, ◌==◌, Bool, true, false, List, [], ◌∷◌, ◌++◌, length, Option, Some, None, refl, sym, ◌∙◌, ap, subst, arith, ◌&&◌, nat_le, if◌then◌else◌, inl, inr}
 use Rattle.std.specs.Prelude.{option_and_then, ◌⊎◌}
 use Rattle.std.specs.Option.{option_map}
 use Rattle.std.specs.List.{list_all}
@@ -7,9 +7,7 @@ use Rattle.std.specs.Char.{is_ascii_digit}
 use Rattle.std.proofs.lemmas.Bool.Decides.{nat_tests}
 use Rattle.iso_text.specs.Cuts.{front, back, is_byte}
 use Rattle.iso_text.specs.Digits.{decimal, are_digits, digits_of, whole_of, divisor_of, over_of, ratio_of}
-use Rattle.iso_text.specs.Fractions.{signed, lowest, k_ratio_of, k_fraction_of}
-use Rattle.iso_text.specs.Spellings.{SpellsDigits, SpellsWhole, SpellsDivisor, SpellsOver, SpellsRatio, minus, SpellsKFraction}
-use Rattle.iso_text.specs.declared.numbers.Frac.{Frac}
+use Rattle.iso_text.specs.Spellings.{SpellsDigits, SpellsWhole, SpellsDivisor, SpellsOver, SpellsRatio}
 use Rattle.iso_text.proofs.BodyLemmas.{both, apart}
 use Rattle.iso_text.proofs.Steps.{guard, bind}
 

@@ -1,10 +1,10 @@
 -- A run over lines against the definitions of a file and a start.
-use Rattle.std.proofs.Common.{◌≡◌, ℕ, zero, suc, ◌+◌, ◌<◌, ◌≤◌, Bool, true, false, List, [], ◌∷◌, ◌++◌, length, map, filter, take, drop, get_or, Option, Some, None, refl, sym, ◌∙◌, ap, subst, arith, inl, inr, append_assoc, append-nil, length-append}
+use Rattle.std.proofs.Common.{◌≡◌, ℕ, zero, suc, ◌+◌, ◌≤◌, List, [], ◌∷◌, ◌++◌, length, filter, take, drop, Option, Some, None, refl, sym, ◌∙◌, ap, subst, arith, inl, inr, length-append}
 use Rattle.std.specs.Prelude.{option_and_then, ◌⊎◌, Result, Ok, Err, IfOk, IfErr, MatchResult}
 use Rattle.std.proofs.lemmas.List.{take-append-drop}
 use Rattle.std.proofs.lemmas.Grind.{common_steps}
 use Rattle.iso_text.specs.FileValue.{File}
-use Rattle.iso_text.specs.File.{IsSound, IsFileOf, IsStartOf, IsFile, IsStart, IsBadAfter, HasCause, file_lines, is_kept, kinds, said_by_lines}
+use Rattle.iso_text.specs.File.{IsFileOf, IsStartOf, IsFile, IsStart, IsBadAfter, HasCause, is_kept, kinds}
 use Rattle.iso_text.specs.LineKinds.{kind_of}
 use Rattle.iso_text.specs.Draft.{draft, next_of, begin, finished, Refuses}
 use Rattle.iso_text.specs.Lines.{lines_of}
@@ -14,7 +14,6 @@ use Rattle.iso_text.specs.declared.draft.Stage.TheVariants.{Begin, Headed, Body,
 use Rattle.iso_text.specs.declared.line_kinds.Line.{Line}
 use Rattle.iso_text.specs.declared.read_error.ReadError.{ReadError}
 use Rattle.iso_text.specs.declared.read_error.ReadError.TheVariants.{BadText, NoMemory}
-use Rattle.iso_text.proofs.Steps.{Holds, lines_at}
 use Rattle.iso_text.proofs.Runs.{runs, runs_append, runs_kept, runs_keep, then_runs}
 use Rattle.iso_text.proofs.FileRuns.{completes, completion_at, file_runs}
 

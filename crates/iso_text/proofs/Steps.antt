@@ -1,24 +1,21 @@
 -- What a draft holds, and that each line adds itself to it.
-use Rattle.std.proofs.Common.{◌≡◌, ℕ, ℤ, zero, suc, ◌+◌, ◌<◌, ◌≤◌, ◌==◌, Bool, true, false, List, [], ◌∷◌, ◌++◌, length, Option, Some, None, refl, sym, ◌∙◌, ap, subst, arith, ◌&&◌, nat_lt, nat_le, length-append, append-nil, if◌then◌else◌}
-use Rattle.std.specs.Prelude.{option_and_then, is_none, is_some, filter}
+use Rattle.std.proofs.Common.{◌≡◌, ℕ, ℤ, ◌<◌, ◌≤◌, ◌==◌, Bool, true, false, List, [], ◌∷◌, ◌++◌, length, Option, Some, None, refl, sym, ◌∙◌, ap, subst, arith, ◌&&◌, nat_lt, nat_le, length-append, if◌then◌else◌}
+use Rattle.std.specs.Prelude.{option_and_then, is_none, is_some}
 use Rattle.std.specs.List.{list_all}
 use Rattle.std.proofs.lemmas.Bool.{ltb-true}
 use Rattle.std.proofs.lemmas.Bool.Decides.{nat_tests}
-use Rattle.iso_text.specs.FileValue.{File, file_with_hall}
-use Rattle.iso_text.specs.File.{IsSound, IsFileOf, body_lines, block_lines, file_lines, has_entries, is_block, is_new, have_new_names, is_kept}
-use Rattle.iso_text.specs.Draft.{draft, settled, on_head, on_hall, takes_block, on_irrep, on_k, takes_mat, on_mat, on_atom, on_tolerance, on_listed, on_section, next_of}
+use Rattle.iso_text.specs.FileValue.{File}
+use Rattle.iso_text.specs.File.{IsSound, body_lines, block_lines, file_lines, has_entries, is_block, is_new}
+use Rattle.iso_text.specs.Draft.{draft, settled, takes_block, on_irrep, on_atom, on_tolerance, on_listed, on_section}
 use Rattle.iso_text.specs.declared.draft.Draft.{Draft}
 use Rattle.iso_text.specs.declared.draft.Stage.{Stage}
 use Rattle.iso_text.specs.declared.draft.Stage.TheVariants.{Begin, Headed, Body, Open, Block, Done}
 use Rattle.iso_text.specs.declared.line_kinds.IrrepLine.{IrrepLine}
 use Rattle.iso_text.specs.declared.line_kinds.Line.{Line}
 use Rattle.iso_text.specs.declared.line_kinds.Line.TheVariants.{Skip, Bad, Head, Hall, Irrep, K, Mat, Atom, Tolerance, Listed, End}
-use Rattle.iso_text.specs.declared.numbers.Frac.{Frac}
 use Rattle.iso_text.specs.declared.sections.AtomText.{AtomText}
 use Rattle.iso_text.specs.declared.sections.IrrepText.{IrrepText}
-use Rattle.iso_text.specs.declared.sections.MatText.{MatText}
 use Rattle.iso_text.proofs.BodyLemmas.{body-block, body-atom, body-tolerance, body-listed, new_names-snoc, both, apart, all-snoc}
-use Rattle.std.proofs.lemmas.List.{map-append}
 
 -- the lines that are read at a stage
 abbrev pub lines_at : Stage → File → List Line

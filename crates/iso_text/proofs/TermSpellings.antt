@@ -1,5 +1,5 @@
 -- The grammar of terms against their function.
-use Rattle.std.proofs.Common.{◌≡◌, ℕ, zero, suc, ◌+◌, ◌<◌, ◌≤◌, ◌==◌, Bool, true, false, List, [], ◌∷◌, ◌++◌, length, Option, Some, None, refl, sym, ◌∙◌, ap, subst, arith, ◌&&◌, ◌||◌, nat_lt, nat_le, if◌then◌else◌, inl, inr, append-nil}
+use Rattle.std.proofs.Common.{◌≡◌, ℕ, ◌<◌, ◌==◌, Bool, true, false, List, [], ◌∷◌, ◌++◌, length, Option, Some, None, refl, sym, ◌∙◌, ap, subst, arith, nat_lt, nat_le, if◌then◌else◌, inl, inr, append-nil}
 use Rattle.std.specs.Prelude.{option_and_then, ◌⊎◌}
 use Rattle.std.specs.Option.{option_map}
 use Rattle.std.specs.List.{list_all}
@@ -9,8 +9,8 @@ use Rattle.std.proofs.lemmas.Bool.Decides.{nat_tests}
 use Rattle.iso_text.specs.Cuts.{front, back, is_byte}
 use Rattle.iso_text.specs.Digits.{whole_of, ratio_of}
 use Rattle.iso_text.specs.Numbers.{power_of_z, root_of, unit_of, coefficient_of, term, alone, product_of, term_of}
-use Rattle.iso_text.specs.Spellings.{SpellsWhole, SpellsDivisor, SpellsOver, SpellsRatio}
-use Rattle.iso_text.specs.SumSpellings.{SpellsPower, SpellsUnit, SpellsCoefficient, SpellsRational, SpellsAlone, SpellsProduct, SpellsTerm}
+use Rattle.iso_text.specs.Spellings.{SpellsDivisor, SpellsOver}
+use Rattle.iso_text.specs.SumSpellings.{SpellsPower, SpellsUnit, SpellsCoefficient, SpellsTerm}
 use Rattle.iso_text.specs.declared.numbers.Term.{Term}
 use Rattle.iso_text.specs.declared.numbers.Unit.{Unit}
 use Rattle.iso_text.specs.declared.numbers.Unit.TheVariants.{One, Z, I, R2, R3, R6}

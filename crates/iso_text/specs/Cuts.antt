@@ -4,7 +4,7 @@
 -- behind p text: what follows that byte
 -- words_of text: the words, which spaces and tabs separate
 -- cut_at p text: the text cut before each byte that p picks, but the first byte
-use Rattle.std.specs.Prelude.{ℕ, Bool, true, false, List, [], ◌∷◌, ◌++◌, ◌==◌, ◌||◌, drop, if◌then◌else◌}
+use Rattle.std.specs.Prelude.{ℕ, Bool, false, List, [], ◌∷◌, ◌==◌, ◌||◌, drop, if◌then◌else◌}
 
 -- a space or a tab
 abbrev pub is_blank : ℕ → Bool

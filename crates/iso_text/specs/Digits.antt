@@ -4,7 +4,7 @@
 -- digits_of most text, whole_of most text: the number of at most so many digits, the second of one at least
 -- divisor_of text: one of 1, 2, 3, 4, 6, 8, 12, 24, written so
 -- ratio_of most text: a whole number, and the divisor behind a `/`, where there is one
-use Rattle.std.specs.Prelude.{ℕ, ◌+◌, ◌-◌, ◌*◌, Bool, true, false, List, [], ◌∷◌, length, fold, nat_le, ◌==◌, ◌&&◌, if◌then◌else◌, Option, Some, None, option_and_then}
+use Rattle.std.specs.Prelude.{ℕ, ◌+◌, ◌-◌, ◌*◌, Bool, List, [], ◌∷◌, length, fold, nat_le, ◌==◌, ◌&&◌, if◌then◌else◌, Option, Some, None, option_and_then}
 use Rattle.std.specs.List.{list_all}
 use Rattle.std.specs.Char.{is_ascii_digit}
 use Rattle.std.specs.Option.{option_map}

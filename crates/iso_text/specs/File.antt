@@ -12,8 +12,7 @@ use Rattle.iso_text.specs.LineKinds.{kind_of}
 use Rattle.iso_text.specs.declared.read_error.ReadError.{ReadError}
 use Rattle.iso_text.specs.declared.read_error.ReadError.TheVariants.{BadText, NoMemory}
 use Rattle.iso_text.specs.declared.line_kinds.Line.{Line}
-use Rattle.iso_text.specs.declared.line_kinds.Line.TheVariants.{Skip, Bad, Head, Hall, Irrep, K, Mat, Atom, Tolerance, Listed, End}
-use Rattle.iso_text.specs.declared.sections.AtomText.{AtomText}
+use Rattle.iso_text.specs.declared.line_kinds.Line.TheVariants.{Skip, Head, Hall, Irrep, K, Mat, Atom, Tolerance, Listed, End}
 use Rattle.iso_text.specs.declared.sections.IrrepText.{IrrepText}
 use Rattle.iso_text.specs.declared.sections.MatText.{MatText}
 

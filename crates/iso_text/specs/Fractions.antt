@@ -3,9 +3,9 @@
 -- k_fraction_of text: a fraction of a wave vector, in lowest terms
 -- place_of text: a coordinate, in units of 1/12,000,000 of a cell edge
 -- tolerance_of text: a coordinate from 0 to below 1/4
-use Rattle.std.specs.Prelude.{ℕ, ℤ, pos, negsuc, ◌+◌, ◌-◌, ◌*◌, ◌/◌, ◌%◌, ◌^◌, Bool, true, false, List, [], ◌∷◌, length, nat_le, nat_lt, ◌==◌, ◌&&◌, ◌||◌, if◌then◌else◌, Option, Some, None, option_and_then, neg_ℤ}
+use Rattle.std.specs.Prelude.{ℕ, ℤ, pos, negsuc, ◌+◌, ◌-◌, ◌*◌, ◌/◌, ◌%◌, ◌^◌, Bool, true, false, List, [], ◌∷◌, length, nat_le, nat_lt, ◌==◌, ◌&&◌, if◌then◌else◌, Option, Some, None, option_and_then, neg_ℤ}
 use Rattle.std.specs.Option.{option_map}
-use Rattle.iso_text.specs.Cuts.{front, back, behind, begins, is_byte, is_sign}
+use Rattle.iso_text.specs.Cuts.{front, back, is_byte, is_sign}
 use Rattle.iso_text.specs.Digits.{digits_of, whole_of, ratio_of}
 use Rattle.iso_text.specs.declared.numbers.Frac.{Frac}
 

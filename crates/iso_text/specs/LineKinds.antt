@@ -1,7 +1,7 @@
 -- What the lines of a file say, each with its values.
 --
 -- kind_of n line: what line n says: a kind with its values, Skip, or Bad where it is none
-use Rattle.std.specs.Prelude.{ℕ, ℤ, ◌-◌, Bool, true, false, List, [], ◌∷◌, nat_le, ◌==◌, ◌&&◌, if◌then◌else◌, Option, Some, None, option_and_then, codes}
+use Rattle.std.specs.Prelude.{ℕ, ◌-◌, List, [], ◌∷◌, nat_le, ◌&&◌, if◌then◌else◌, Option, Some, None, option_and_then, codes}
 use Rattle.std.specs.Option.{option_map}
 use Rattle.std.specs.Str.{bytes_eq}
 use Rattle.iso_text.specs.Cuts.{front, back, words_of, is_blank}
@@ -11,9 +11,7 @@ use Rattle.iso_text.specs.Fractions.{k_fraction_of, place_of, tolerance_of}
 use Rattle.iso_text.specs.Numbers.{number_of}
 use Rattle.iso_text.specs.Operations.{operation_of}
 use Rattle.iso_text.specs.declared.numbers.Term.{Term}
-use Rattle.iso_text.specs.declared.numbers.Frac.{Frac}
 use Rattle.iso_text.specs.declared.sections.AtomText.{AtomText}
-use Rattle.iso_text.specs.declared.sections.MatText.{MatText}
 use Rattle.iso_text.specs.declared.line_kinds.Line.{Line}
 use Rattle.iso_text.specs.declared.line_kinds.Line.TheVariants.{Skip, Bad, Head, Hall, Irrep, K, Mat, Atom, Tolerance, Listed, End}
 use Rattle.iso_text.specs.declared.line_kinds.Keyword.{Keyword}

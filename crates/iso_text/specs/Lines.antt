@@ -4,7 +4,7 @@
 -- is_skipped line: a comment, or nothing but blanks
 -- is_text line: no byte but the printable ones of ASCII and the tab
 -- unindented text, trimmed text: without the blanks in front, or at both ends
-use Rattle.std.specs.Prelude.{ℕ, Bool, true, false, List, [], ◌∷◌, map, nat_le, ◌==◌, ◌&&◌, ◌||◌, if◌then◌else◌}
+use Rattle.std.specs.Prelude.{ℕ, Bool, List, [], ◌∷◌, map, nat_le, ◌==◌, ◌&&◌, ◌||◌, if◌then◌else◌}
 use Rattle.std.specs.List.{list_all}
 use Rattle.iso_text.specs.Cuts.{onto_first, is_blank, begins, is_byte}
 

@@ -2,7 +2,7 @@
 --
 -- unit_of text, term_of text: a unit; a term without its sign
 -- number_of text: 1 to 16 terms with their signs
-use Rattle.std.specs.Prelude.{ℕ, ◌+◌, ◌-◌, ◌*◌, Bool, true, false, List, [], ◌∷◌, length, nat_le, nat_lt, ◌==◌, ◌&&◌, ◌||◌, if◌then◌else◌, Option, Some, None, option_and_then}
+use Rattle.std.specs.Prelude.{ℕ, Bool, false, List, [], ◌∷◌, length, nat_le, nat_lt, ◌==◌, ◌&&◌, if◌then◌else◌, Option, Some, None, option_and_then}
 use Rattle.std.specs.Option.{option_map}
 use Rattle.iso_text.specs.Cuts.{front, back, cut_at, is_byte, is_sign}
 use Rattle.iso_text.specs.Digits.{whole_of, ratio_of}

@@ -3,7 +3,7 @@
 -- signed_part_of text: a term of a coordinate: x, y or z with a coefficient, or a shift in twelfths
 -- row_of text: a coordinate, a sum of such terms, no letter and no shift twice
 -- operation_of text: three coordinates joined by `,`
-use Rattle.std.specs.Prelude.{ℕ, ℤ, pos, ◌*◌, ◌/◌, ◌%◌, Bool, true, false, List, [], ◌∷◌, nat_le, ◌==◌, ◌&&◌, if◌then◌else◌, Option, Some, None, option_and_then, is_none, unwrap_or}
+use Rattle.std.specs.Prelude.{ℕ, ℤ, pos, ◌*◌, ◌/◌, ◌%◌, Bool, false, List, [], ◌∷◌, nat_le, ◌==◌, ◌&&◌, if◌then◌else◌, Option, Some, None, option_and_then, is_none, unwrap_or}
 use Rattle.std.specs.Option.{option_map}
 use Rattle.iso_text.specs.Cuts.{front, behind, cut_at, is_byte, is_sign}
 use Rattle.iso_text.specs.Digits.{ratio_of}

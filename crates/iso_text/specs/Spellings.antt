@@ -5,11 +5,11 @@
 -- SpellsRatio most text n d: a whole number, and optionally `/` and a denominator
 -- SpellsKFraction text v, SpellsPlace text units, SpellsTolerance text units: the fractions and coordinates
 -- SpellsTerm minus text t, SpellsNumber text ts: a term without its sign, and a sum of 1 to 16 terms
-use Rattle.std.specs.Prelude.{◌≡◌, ◌⊎◌, ℕ, ℤ, pos, ◌+◌, ◌*◌, ◌/◌, ◌-◌, ◌^◌, ◌<◌, ◌≤◌, Bool, true, false, List, [], ◌∷◌, ◌++◌, length, codes, Contains}
+use Rattle.std.specs.Prelude.{◌≡◌, ◌⊎◌, ℕ, ℤ, pos, ◌+◌, ◌*◌, ◌/◌, ◌<◌, ◌≤◌, Bool, true, false, List, [], ◌∷◌, ◌++◌, length, codes}
 use Rattle.std.specs.List.{list_all}
 use Rattle.std.specs.Char.{is_ascii_digit}
 use Rattle.iso_text.specs.Digits.{decimal}
-use Rattle.iso_text.specs.Fractions.{signed, lowest, edge_units, point_units, is_tolerance}
+use Rattle.iso_text.specs.Fractions.{signed, lowest, edge_units, point_units}
 use Rattle.iso_text.specs.declared.numbers.Frac.{Frac}
 
 -- digits, none or more, and their number

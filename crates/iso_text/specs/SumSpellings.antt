@@ -2,7 +2,7 @@
 --
 -- SpellsUnit text u, SpellsCoefficient text n d: the two parts of a term
 -- SpellsTerm negative text t: a term without its sign
-use Rattle.std.specs.Prelude.{◌≡◌, ◌⊎◌, ℕ, ◌<◌, ◌≤◌, Bool, List, ◌∷◌, ◌++◌, codes}
+use Rattle.std.specs.Prelude.{◌≡◌, ◌⊎◌, ℕ, ◌<◌, ◌≤◌, Bool, List, ◌++◌, codes}
 use Rattle.iso_text.specs.Numbers.{term}
 use Rattle.iso_text.specs.Spellings.{SpellsWhole, SpellsRatio}
 use Rattle.iso_text.specs.declared.numbers.Term.{Term}

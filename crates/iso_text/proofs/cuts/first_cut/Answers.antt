@@ -1,5 +1,4 @@
-use Rattle.std.proofs.Common.{◌∙◌, ◌≡◌, take, ap, sym, rules}
-use Rattle.iso_text.specs.Cuts.{cut_at, is_sign}
+use Rattle.iso_text.specs.Cuts.{is_sign}
 use Rattle.iso_text.proofs.CutLemmas.{cut_at-first}
 use Rattle.iso_text.proofs.cuts.first_cut.Goals as goal
 

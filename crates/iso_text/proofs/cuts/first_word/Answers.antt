@@ -1,4 +1,4 @@
-use Rattle.std.proofs.Common.{◌∙◌, ◌≡◌, ap, rules, arith, length}
+use Rattle.std.proofs.Common.{ap, rules, arith, length}
 use Rattle.iso_text.proofs.CutLemmas.{words_of-first, front_some}
 use Rattle.iso_text.proofs.cuts.first_word.Goals as goal
 

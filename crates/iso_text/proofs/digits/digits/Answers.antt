@@ -1,4 +1,4 @@
-use Rattle.std.proofs.Common.{arith, ◌<◌, ◌≤◌, ◌^◌}
+use Rattle.std.proofs.Common.{arith, ◌≤◌, ◌^◌}
 use Rattle.iso_text.proofs.DigitLemmas.{ten_power}
 use Rattle.iso_text.proofs.digits.digits.Goals as goal
 

@@ -1,4 +1,4 @@
-use Rattle.std.proofs.Common.{arith, ◌∙◌, sym, ◌-◌, length, rules, refl}
+use Rattle.std.proofs.Common.{arith, ◌∙◌, ◌-◌, length, rules}
 use Rattle.iso_text.proofs.LineLemmas.{trail_stops, trail_goes}
 use Rattle.iso_text.proofs.lines.without_trail.Goals as goal
 

@@ -1,4 +1,4 @@
-use Rattle.std.proofs.Common.{arith, sym, rules, ap, ◌<◌, length}
+use Rattle.std.proofs.Common.{arith, sym, rules, ◌<◌, length}
 use Rattle.iso_text.proofs.NumberLemmas.{read_many}
 use Rattle.std.proofs.lemmas.Bool.Decides.{nat_tests}
 use Rattle.iso_text.proofs.number_words.number.Goals as goal

@@ -1,4 +1,4 @@
-use Rattle.std.proofs.Common.{arith, ◌+◌, ◌≡◌, length, refl, sym}
+use Rattle.std.proofs.Common.{arith, ◌≡◌, length, refl, sym}
 use Rattle.std.proofs.lemmas.Bool.Decides.{nat_tests}
 use Rattle.iso_text.specs.Lines.{lines_of}
 use Rattle.iso_text.proofs.Starts.{stands_next, stands_refused, stands_short, stands_whole, at_end}
