@@ -1,7 +1,6 @@
 -- What is said and what is left unwritten, by the status.
 use Rattle.std.proofs.Common.{◌≡◌, ℕ, ◌<◌, ◌≤◌, inl, inr, List, [], Option, Some, None, IfSome, length, sym, ap, subst}
 use Rattle.std.proofs.lemmas.List.{append-nil}
-use Rattle.iso_text.specs.Streams.{GrownBy}
 use Rattle.iso_report.specs.Endings.{Change, Grew, change}
 use Rattle.iso_report.specs.Outcome.{IsOutcome, refused}
 use Rattle.iso_report.specs.declared.job.Job.{Job}

@@ -8,4 +8,4 @@ pub flat_map_more : {X : Type 0} (f : X → List ℕ) (xs : List X) (i : ℕ) (d
 flat_map_more f xs i d l =
     let next : i + 1 ≡ suc i = omega arith in
     ap (λ k. flat_map f (take k xs)) next ∙ ap (flat_map f) (take-suc xs i d l) ∙ flat_map-append f (take i xs) (get_or xs i d ∷ [])
-        ∙ ap (λ t. flat_map f (take i xs) ++ t) (append-nil (f (get_or xs i d)))
+    ∙ ap (λ t. flat_map f (take i xs) ++ t) (append-nil (f (get_or xs i d)))

@@ -1,5 +1,5 @@
 -- The lines of a file are read in one way.
-use Rattle.std.proofs.Common.{◌≡◌, ◌≢◌, ℕ, ◌+◌, ◌<◌, ◌≤◌, ◌==◌, ◌&&◌, Bool, true, false, IsTrue, List, [], ◌∷◌, ◌++◌, Option, Some, None, MatchOption, IfNone, IfSome, Bor, length, take, drop, refl, sym, ◌∙◌, ap, subst, arith, append_assoc, length-append, drop-cons, slice_index_or, slice_get, position, get_or, zero, suc, eq-eqb, codes}
+use Rattle.std.proofs.Common.{◌≡◌, ℕ, ◌+◌, ◌<◌, ◌≤◌, ◌==◌, ◌&&◌, Bool, true, false, IsTrue, List, [], ◌∷◌, ◌++◌, Option, Some, None, MatchOption, IfNone, IfSome, Bor, length, take, drop, refl, sym, ◌∙◌, ap, subst, arith, append_assoc, length-append, drop-cons, slice_index_or, slice_get, position, get_or, zero, suc, eq-eqb, codes}
 use Rattle.std.proofs.lemmas.List.{append_cancel_left}
 use Rattle.std.specs.List.{list_all, position_or_len}
 use Rattle.std.proofs.lemmas.Bool.{lt-ltb, eqb-true}
@@ -8,7 +8,7 @@ use Rattle.std.proofs.Math.Seq.{get_or-append_seam, take-append_seam}
 use Rattle.std.proofs.lemmas.List.Quantifiers.{position-Some}
 use Rattle.std.proofs.lemmas.List.{take-append-drop}
 use Rattle.std.proofs.lemmas.List.Sums.{position_or_len_is}
-use Rattle.iso_text.specs.Name.{is_name, is_name_byte, begins_with_letter}
+use Rattle.iso_text.specs.Name.{is_name, is_name_byte}
 use Rattle.space_ops.specs.declared.op.Op.{Op}
 use Rattle.space_ops.specs.OpText.{text_of}
 use Rattle.iso_report.specs.declared.sign_file.Sign.{Sign}

@@ -1,15 +1,14 @@
 -- The directions of a sign representation are its listing.
-use Rattle.std.proofs.Common.{◌≡◌, ◌≢◌, ◌⊎◌, ◌↔◌, inl, inr, ℕ, zero, suc, ◌+◌, ◌-◌, ◌<◌, ◌≤◌, ℤ, pos, negsuc, ◌+ℤ◌, ◌*ℤ◌, List, [], ◌∷◌, ◌++◌, All, Contains, length, map, slice_index_or, slice_index, slice_get, nat_eq, if◌then◌else◌, Some, None, IsSorted, refl, sym, ◌∙◌, ap, subst, arith}
+use Rattle.std.proofs.Common.{◌≡◌, ◌≢◌, ◌⊎◌, ◌↔◌, inl, inr, ℕ, zero, suc, ◌<◌, ℤ, pos, negsuc, ◌*ℤ◌, List, [], ◌∷◌, All, Contains, length, map, slice_index_or, slice_index, slice_get, nat_eq, if◌then◌else◌, Some, None, IsSorted, refl, sym, ◌∙◌, ap, subst, arith}
 use Rattle.std.proofs.lemmas.Int.{ints}
-use Rattle.std.specs.List.Sorted.{IsStrictlyIncreasing}
 use Rattle.std.specs.declared.cmp.Ordering.TheVariants.{Equal, Greater}
 use Rattle.std.specs.Ordering.{nat_cmp, ordering_then}
 use Rattle.std.specs.Cmp.{nat_cmp_is}
 use Rattle.space_ops.specs.declared.op.Op.{Op}
-use Rattle.iso_report.specs.Action.{Action, IsVector, IsFixedBy, IsStabiliserOf, IsIsotropySubgroup, IsInFixedSpace, AreConjugate, conjugate}
-use Rattle.iso_report.specs.Directions.{Direction, IsReduced, AllVanish, AreEquations, IsDirection, IsOfClass, HasOneOfClass, IsListing, direction_cmp, dim_of, dot, entry, row_at}
-use Rattle.iso_report.specs.SignDirections.{direction_of, HasMembers, IsAll, IsKernel}
-use Rattle.iso_report.specs.SignRep.{action_of, group_of, number_of_sign, value}
+use Rattle.iso_report.specs.Action.{IsFixedBy, IsInFixedSpace, AreConjugate, conjugate}
+use Rattle.iso_report.specs.Directions.{Direction, IsReduced, AllVanish, AreEquations, IsDirection, IsOfClass, HasOneOfClass, IsListing, direction_cmp, dot, entry, row_at}
+use Rattle.iso_report.specs.SignDirections.{direction_of, IsAll, IsKernel}
+use Rattle.iso_report.specs.SignRep.{action_of, group_of, number_of_sign}
 use Rattle.iso_report.specs.declared.sign_file.Sign.{Sign}
 use Rattle.iso_report.specs.declared.sign_file.Sign.TheVariants.{Plus, Minus}
 use Rattle.iso_report.proofs.MemberLemmas.{rising-one}

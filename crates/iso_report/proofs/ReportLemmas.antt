@@ -1,8 +1,6 @@
 -- The pieces of a report, joined.
-use Rattle.std.proofs.Common.{◌≡◌, ℕ, zero, suc, ◌+◌, ◌<◌, ◌≤◌, List, [], ◌∷◌, ◌++◌, length, take, flat_map, get_or, map, codes, decimal, refl, sym, ◌∙◌, ap, subst, arith, append_assoc, ◌/◌}
+use Rattle.std.proofs.Common.{◌≡◌, ℕ, zero, suc, ◌+◌, ◌<◌, ◌≤◌, List, [], ◌∷◌, ◌++◌, length, take, flat_map, get_or, codes, decimal, refl, sym, ◌∙◌, ap, subst, arith, append_assoc, ◌/◌}
 use Rattle.std.proofs.lemmas.List.{append-nil}
-use Rattle.std.proofs.lemmas.Grind.{flat_map-append}
-use Rattle.std.proofs.Math.Seq.{take-suc}
 use Rattle.std.specs.List.{enumerate_from}
 use Rattle.space_ops.specs.declared.op.Op.{Op}
 use Rattle.iso_report.specs.Action.{Action}

@@ -3,7 +3,7 @@
 -- lattice_letter lattice: the letter of a lattice
 -- order_of parent: rotations times centring vectors
 -- check_text parent: the report
-use Rattle.std.specs.Prelude.{ℕ, ◌*◌, List, [], ◌∷◌, ◌++◌, length, flat_map, codes, decimal}
+use Rattle.std.specs.Prelude.{ℕ, ◌*◌, List, [], ◌++◌, length, flat_map, codes, decimal}
 use Rattle.space_ops.specs.declared.lattice.Lattice.{Lattice}
 use Rattle.space_ops.specs.declared.lattice.Lattice.TheVariants.{P, A, B, C, I, R, F}
 use Rattle.space_ops.specs.declared.op.Op.{Op}

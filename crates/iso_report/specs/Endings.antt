@@ -2,7 +2,7 @@
 --
 -- Change: a sink before and after a call; Grew, GrewByPrefix, HasFailed: what happened to it
 -- RunIsDone job bytes out, RunFails job bytes out e: a run that is done, or failed
-use Rattle.std.specs.Prelude.{◌≡◌, ◌⊎◌, ℕ, List, [], Option}
+use Rattle.std.specs.Prelude.{◌⊎◌, ℕ, List, [], Option}
 use Rattle.iso_text.specs.Counts.{HasRisen}
 use Rattle.iso_text.specs.Streams.{GrownBy, GrownByPrefix}
 use Rattle.iso_report.specs.declared.job.Job.{Job}

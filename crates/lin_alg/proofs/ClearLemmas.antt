@@ -1,5 +1,5 @@
-use Rattle.std.proofs.Common.{◌≡◌, ℕ, suc, zero, ◌<◌, ◌≤◌, ◌+◌, ◌⊎◌, inl, inr, refl, sym, ◌∙◌, ap, subst, List, [], ◌∷◌, ◌++◌, length, map, get_or, set, take, drop, arith, add-one, true, false, get_or-drop, Vec}
-use Rattle.std.proofs.lemmas.List.{drop_all, take_more_set, take_all, with_items_is, map-set}
+use Rattle.std.proofs.Common.{◌≡◌, ℕ, suc, zero, ◌<◌, ◌≤◌, ◌+◌, inl, inr, refl, sym, ◌∙◌, ap, subst, List, [], ◌∷◌, ◌++◌, length, map, get_or, set, take, drop, arith, add-one, true, false, get_or-drop, Vec}
+use Rattle.std.proofs.lemmas.List.{take_more_set, take_all, with_items_is, map-set}
 use Rattle.std.specs.Vec.{with_items}
 use Rattle.cyclo24.specs.ExactField.{ExactField, Value}
 use Rattle.lin_alg.specs.Spans.{less}
@@ -8,7 +8,6 @@ use Rattle.lin_alg.specs.Rows.{vector, exact_rows, HaveWidth}
 use Rattle.lin_alg.specs.Insertion.{IsWideLess}
 use Rattle.lin_alg.specs.FieldLaws.{less-nought}
 use Rattle.lin_alg.specs.SpanLaws.{funext}
-use Rattle.lin_alg.proofs.RowLemmas.{drop-item}
 use Rattle.lin_alg.specs.Insertion.{IsWideClear}
 use Rattle.lin_alg.proofs.PlaceLemmas.{take-item, exact_rows-append}
 

@@ -1,19 +1,17 @@
-use Rattle.std.proofs.Common.{◌≡◌, inl, inr, ℕ, ◌<◌, Bool, true, false, refl, sym, ◌∙◌, ap, subst, List, [], ◌∷◌, ◌↔◌, IfOk}
-use Rattle.cyclo24.specs.FieldOn.{FieldOn}
+use Rattle.std.proofs.Common.{◌≡◌, inr, ℕ, Bool, true, false, refl, sym, ◌∙◌, ap, subst, List, ◌∷◌, ◌↔◌}
 use Rattle.cyclo24.specs.ExactField.{ExactField, Value}
 use Rattle.lin_alg.specs.declared.echelon.Grew.{Grew}
 use Rattle.lin_alg.specs.declared.echelon.Grew.TheVariants.{Yes, No}
 use Rattle.lin_alg.specs.Spans.{less, IsInSpan, AreSame}
-use Rattle.lin_alg.specs.Reduced.{reduce, scaled, inserted, IsReduced, IsForm, IsClear}
-use Rattle.lin_alg.specs.Rows.{exact_rows, vector, HaveWidth}
+use Rattle.lin_alg.specs.Reduced.{reduce, scaled, IsReduced, IsClear}
+use Rattle.lin_alg.specs.Rows.{exact_rows, HaveWidth}
 use Rattle.lin_alg.specs.Equations.{dot, Vanishes}
-use Rattle.lin_alg.specs.FieldLaws.{less-self}
 use Rattle.lin_alg.specs.SpanLaws.{in_span-past}
 use Rattle.lin_alg.specs.InsertLaws.{span-subspace, has_back, reduce-member, member-reduce, inserted-reduced, inserted-within, inserted-has, reduce-clear, reduce-differs}
 use Rattle.lin_alg.specs.FormLaws.{cut-vanishes}
 use Rattle.lin_alg.specs.RowLaws.{width-form}
 use Rattle.lin_alg.specs.Insertion.{IsInserted, IsLastColumn, IsWideClear, IsWideInsert}
-use Rattle.lin_alg.specs.Echelon.{EchelonView, IsEchelon}
+use Rattle.lin_alg.specs.Echelon.{IsEchelon}
 
 module _ {A : Type 0} (f : ExactField) (value : A → Value f) (old new : List (ℕ × List A)) (v : ℕ → Value f) where
   inserted_form : (b : Grew) → IsReduced f.laws (exact_rows f value old) → IsInserted f value old v b new → IsReduced f.laws (exact_rows f value new)

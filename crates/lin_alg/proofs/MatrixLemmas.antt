@@ -1,9 +1,8 @@
-use Rattle.std.proofs.Common.{◌≡◌, ℕ, suc, zero, ◌+◌, ◌*◌, ◌/◌, ◌%◌, ◌<◌, ◌≤◌, ◌⊎◌, inl, inr, ◌&&◌, Bool, true, false, refl, sym, ◌∙◌, ap, subst, List, length, set, arith, ltb, nat_eq, lt-ltb, le-ltb, if◌then◌else◌}
+use Rattle.std.proofs.Common.{◌≡◌, ℕ, suc, zero, ◌+◌, ◌*◌, ◌/◌, ◌%◌, ◌<◌, ◌≤◌, ◌⊎◌, inl, inr, ◌&&◌, true, false, sym, ◌∙◌, ap, List, length, set, arith, nat_eq, lt-ltb, le-ltb, if◌then◌else◌}
 use Rattle.std.proofs.lemmas.Bool.Decides.{eqb_tells}
 use Rattle.std.proofs.lemmas.Nat.{div-mul-add, mod-mul-add}
 use Rattle.cyclo24.specs.FieldOn.{FieldOn}
 use Rattle.cyclo24.specs.ExactField.{ExactField, Value}
-use Rattle.lin_alg.specs.Sums.{total}
 use Rattle.lin_alg.specs.FieldLaws.{nought-plus, times-nought, nought-times}
 use Rattle.lin_alg.specs.TotalLaws.{total-same, total-nought}
 use Rattle.lin_alg.specs.RowLaws.{vector-past}

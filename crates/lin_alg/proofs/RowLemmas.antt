@@ -1,6 +1,6 @@
-use Rattle.std.proofs.Common.{◌≡◌, ℕ, suc, zero, ◌<◌, ◌≤◌, ◌+◌, ◌⊎◌, inl, inr, refl, sym, ◌∙◌, ap, subst, List, [], ◌∷◌, length, map, get_or, drop, arith, add-one, false, true}
+use Rattle.std.proofs.Common.{◌≡◌, ℕ, suc, zero, ◌<◌, ◌≤◌, ◌+◌, inl, inr, sym, ◌∙◌, ap, subst, List, [], ◌∷◌, length, map, get_or, drop, arith, add-one, false, true}
 use Rattle.std.proofs.Math.Seq.{drop-cons}
-use Rattle.std.proofs.lemmas.List.{get_or-map, length-map, drop_all}
+use Rattle.std.proofs.lemmas.List.{get_or-map, drop_all}
 use Rattle.cyclo24.specs.ExactField.{ExactField, Value}
 use Rattle.lin_alg.specs.Spans.{less}
 use Rattle.lin_alg.specs.Reduced.{reduce}

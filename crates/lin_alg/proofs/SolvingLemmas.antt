@@ -1,14 +1,11 @@
-use Rattle.std.proofs.Common.{◌≡◌, ◌↔◌, ℕ, suc, zero, ◌+◌, ◌-◌, ◌*◌, ◌^◌, ◌<◌, ◌≤◌, ◌⊎◌, inl, inr, refl, sym, ◌∙◌, ap, subst, List, [], ◌∷◌, ◌++◌, length, map, get_or, take, drop, arith, true, false, Result, Ok, Err}
+use Rattle.std.proofs.Common.{◌≡◌, ℕ, suc, zero, ◌+◌, ◌-◌, ◌<◌, ◌≤◌, ◌⊎◌, inl, inr, refl, sym, ◌∙◌, ap, subst, List, [], ◌∷◌, length, take, drop, arith, Result, Ok, Err}
 use Rattle.std.proofs.lemmas.List.{take_all, length-drop}
 use Rattle.cyclo24.specs.FieldOn.{FieldOn}
 use Rattle.cyclo24.specs.ExactField.{ExactField, Value}
 use Rattle.lin_alg.specs.FieldLaws.{neg-nought}
 use Rattle.lin_alg.specs.Spans.{less, IsInSpan, AreSame}
-use Rattle.lin_alg.specs.SpanLaws.{funext}
 use Rattle.lin_alg.specs.Rows.{vector}
 use Rattle.lin_alg.specs.RowLaws.{vector-past}
-use Rattle.lin_alg.specs.Solving.{joined, joined_rows}
-use Rattle.lin_alg.specs.SolvingLaws.{joined-front, joined-past}
 
 dec : (k n : ℕ) → (k < n) ⊎ (n ≤ k)
 dec k n = grind arith

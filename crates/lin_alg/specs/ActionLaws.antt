@@ -3,14 +3,13 @@
 -- image-plus, image-same, image-product, image-identity: images of vectors
 -- fixed-plus, fixed-product: what is fixed
 -- fixed-generated: what the generators fix, each element fixes
-use Rattle.std.proofs.Common.{◌≡◌, ℕ, ◌<◌, refl, sym, ◌∙◌, ap, subst, List, [], ◌∷◌, if◌then◌else◌}
+use Rattle.std.proofs.Common.{◌≡◌, ℕ, ◌<◌, sym, ◌∙◌, ap, subst, List, [], ◌∷◌, if◌then◌else◌}
 use Rattle.std.specs.Cmp.{nat_eq_equiv}
 use Rattle.cyclo24.specs.ExactField.{ExactField, Value}
 use Rattle.lin_alg.specs.Action.{Action, AllBelow, IsAction, IsFixed, entry_of, image, word}
 use Rattle.lin_alg.specs.EquationLaws.{dot-unit}
 use Rattle.lin_alg.specs.Equations.{unit_vector}
 use Rattle.lin_alg.specs.Matrices.{unit_entry}
-use Rattle.lin_alg.specs.Rows.{vector}
 use Rattle.lin_alg.specs.Sums.{total}
 use Rattle.lin_alg.specs.TotalLaws.{times-total, total-plus, total-same, total-swap, total-times}
 

@@ -4,14 +4,13 @@
 -- free-vanishes: each row of a form vanishes on each free vector
 -- vanish-subspace, within-subspace: the rows that vanish on a vector, and those of w columns, are subspaces
 -- vanishing-span: a row that vanishes where the rows of a form do is in their span
-use Rattle.std.proofs.Common.{◌≡◌, ℕ, suc, zero, ◌<◌, ◌≤◌, ◌⊎◌, inl, inr, Bool, true, false, refl, sym, ◌∙◌, ap, subst, List, [], ◌∷◌, arith, nat_eq, if◌then◌else◌}
+use Rattle.std.proofs.Common.{◌≡◌, ℕ, suc, zero, ◌<◌, ◌≤◌, ◌⊎◌, inl, inr, true, false, refl, sym, ◌∙◌, ap, subst, List, [], ◌∷◌, arith, nat_eq, if◌then◌else◌}
 use Rattle.std.proofs.lemmas.Bool.Decides.{eqb_tells}
 use Rattle.cyclo24.specs.FieldOn.{FieldOn}
 use Rattle.lin_alg.specs.Spans.{less, IsInSpan, IsSubspace, HasRows}
 use Rattle.lin_alg.specs.Reduced.{reduce, EndsAt, ArePast, IsReduced, IsClear}
-use Rattle.lin_alg.specs.FieldLaws.{nought-plus, times-nought, nought-times, less-at-nought, less-own, plus-times, times-neg, neg-plus-neg, plus-swap, less-nought}
-use Rattle.lin_alg.specs.SpanLaws.{funext}
-use Rattle.lin_alg.specs.InsertLaws.{reduce-has, reduce-clear, member-reduce, span-rows, span-least}
+use Rattle.lin_alg.specs.FieldLaws.{nought-plus, times-nought, nought-times, less-at-nought, less-own, plus-times, times-neg}
+use Rattle.lin_alg.specs.InsertLaws.{reduce-has, reduce-clear, member-reduce}
 use Rattle.lin_alg.specs.Sums.{total}
 use Rattle.lin_alg.specs.Equations.{dot, unit_vector, free_vector}
 use Rattle.lin_alg.specs.Reduced.{IsWithin, PivotsBelow}

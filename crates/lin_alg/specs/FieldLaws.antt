@@ -2,7 +2,7 @@
 --
 -- nought-plus, neg-plus, plus-cancel, times-nought, nought-times, unit-times, neg-unique, neg-nought, neg-neg, times-neg, plus-times, plus-swap, neg-plus-neg
 -- less-..: facts on x - c y, one step of an elimination
-use Rattle.std.proofs.Common.{◌≡◌, ℕ, suc, zero, Bool, true, false, refl, sym, ◌∙◌, ap}
+use Rattle.std.proofs.Common.{◌≡◌, refl, sym, ◌∙◌, ap}
 use Rattle.cyclo24.specs.FieldOn.{FieldOn}
 
 module _ {K : Type 0} (f : FieldOn K) where

@@ -3,10 +3,8 @@
 -- fix-antitone, stab-antitone: more elements fix less, and the other way round
 -- fix-append: what two lists fix is what both fix
 -- fix-stab-fix, stab-fix-stab: Fix(Stab(Fix H)) is Fix H, and Stab(Fix(Stab v)) is Stab v
-use Rattle.std.proofs.Common.{◌≡◌, ℕ, refl, sym, ap, subst, List, [], ◌∷◌, ◌++◌, ◌⊎◌, inl, inr, ◌↔◌}
-use Rattle.lin_alg.specs.Fixed.{Fix, FixesAll, IsFixedByAll, IsIn}
-use Rattle.lin_alg.specs.Spans.{less}
-use Rattle.lin_alg.specs.UnionLaws.{more}
+use Rattle.std.proofs.Common.{refl, sym, subst, List, [], ◌∷◌, ◌++◌, inl, inr, ◌↔◌}
+use Rattle.lin_alg.specs.Fixed.{FixesAll, IsFixedByAll, IsIn}
 
 module _ {E V : Type 0} (R : E → V → Type 0) where
   pub fixed-member : (h : List E) (v : V) (q : E) → IsFixedByAll R h v → IsIn q h → R q v

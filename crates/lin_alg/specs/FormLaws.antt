@@ -5,7 +5,7 @@
 -- cut-vanishes: a form of the span with one more row vanishes where both do
 -- vanishes-subspace: what the rows vanish on is a subspace
 -- form-length: a form has at most as many rows as columns
-use Rattle.std.proofs.Common.{◌≡◌, ℕ, suc, zero, ◌<◌, ◌≤◌, ◌+◌, sym, ◌∙◌, ap, List, [], ◌∷◌, length, ◌↔◌, arith}
+use Rattle.std.proofs.Common.{◌≡◌, ℕ, suc, ◌<◌, ◌≤◌, ◌+◌, ◌∙◌, List, [], ◌∷◌, length, ◌↔◌, arith}
 use Rattle.cyclo24.specs.FieldOn.{FieldOn}
 use Rattle.lin_alg.specs.Spans.{IsInSpan, IsSubspace, HasRows}
 use Rattle.lin_alg.specs.Reduced.{IsReduced, ArePast, PivotsBelow, IsForm, IsWithin}

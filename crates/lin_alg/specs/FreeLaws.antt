@@ -5,7 +5,7 @@
 -- free_columns-at, column-held: the free columns are those below the width without pivot
 -- free-count: there are as many as columns less rows
 -- free-span: a row that vanishes on the free basis of a form is in its span
-use Rattle.std.proofs.Common.{◌≡◌, ℕ, suc, zero, ◌<◌, ◌≤◌, ◌⊎◌, inl, inr, ◌||◌, ◌+◌, lt-ltb, le-ltb, ltb, Bool, true, false, refl, sym, ◌∙◌, ap, subst, List, [], ◌∷◌, ◌++◌, length, arith, nat_eq, if◌then◌else◌}
+use Rattle.std.proofs.Common.{◌≡◌, ℕ, suc, zero, ◌<◌, ◌≤◌, inl, inr, ◌||◌, ◌+◌, lt-ltb, le-ltb, ltb, Bool, true, false, refl, sym, ◌∙◌, ap, subst, List, [], ◌∷◌, ◌++◌, length, arith, nat_eq, if◌then◌else◌}
 use Rattle.std.proofs.lemmas.Bool.Decides.{eqb_tells}
 use Rattle.std.specs.List.{slice_index}
 use Rattle.cyclo24.specs.FieldOn.{FieldOn}

@@ -4,8 +4,7 @@
 -- are-moves: an action moves the vectors as a group
 -- span-vanishes: where rows vanish, each row of their span does
 -- dot-row_image, images-vanish, image-form: the moved equations of U are equations of q U
-use Rattle.std.proofs.Common.{◌≡◌, ◌↔◌, ◌<◌, ◌≤◌, ◌⊎◌, inl, inr, ℕ, List, [], ◌∷◌, ltb, true, false, if◌then◌else◌, refl, sym, ◌∙◌, ap, subst, arith, lt-ltb, le-ltb}
-use Rattle.std.specs.Cmp.{nat_eq_equiv}
+use Rattle.std.proofs.Common.{◌≡◌, ◌↔◌, ◌<◌, ◌≤◌, ◌⊎◌, inl, inr, ℕ, List, [], ◌∷◌, if◌then◌else◌, sym, ◌∙◌, ap, arith, lt-ltb, le-ltb}
 use Rattle.cyclo24.specs.ExactField.{ExactField, Value}
 use Rattle.lin_alg.specs.Action.{Action, IsAction, IsFixed, entry_of, image, image_of}
 use Rattle.lin_alg.specs.ActionLaws.{image-identity, image-product, image-same}
@@ -19,7 +18,6 @@ use Rattle.lin_alg.specs.SpanLaws.{funext}
 use Rattle.lin_alg.specs.Spans.{AreSame, HasRows, IsInSpan}
 use Rattle.lin_alg.specs.Sums.{total}
 use Rattle.lin_alg.specs.TotalLaws.{times-total, total-same, total-swap, total-times}
-use Rattle.lin_alg.specs.UnionLaws.{more}
 
 pub inside_or_past : (i n : ℕ) → (i < n) ⊎ (n ≤ i)
 inside_or_past i n = grind arith

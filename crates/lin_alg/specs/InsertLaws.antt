@@ -3,13 +3,13 @@
 -- span-subspace, span-least: the span is the least subspace with the rows
 -- reduce-..: what is left of a row, 0 in each pivot column, differs from it by a member
 -- inserted-reduced: the form stays reduced; inserted-within, inserted-has: its span is that with the row
-use Rattle.std.proofs.Common.{◌≡◌, ℕ, suc, zero, ◌<◌, ◌≤◌, ◌⊎◌, inl, inr, Bool, true, false, refl, sym, ◌∙◌, ap, subst, List, [], ◌∷◌, arith, ltb, if◌then◌else◌}
+use Rattle.std.proofs.Common.{◌≡◌, ℕ, ◌<◌, ◌≤◌, inl, inr, true, false, refl, sym, ◌∙◌, ap, subst, List, [], ◌∷◌, arith, ltb, if◌then◌else◌}
 use Rattle.std.proofs.lemmas.Bool.{ltb-true, ltb-false}
 use Rattle.cyclo24.specs.FieldOn.{FieldOn}
 use Rattle.lin_alg.specs.Spans.{less, IsInSpan, IsSubspace, HasRows}
-use Rattle.lin_alg.specs.Reduced.{EndsAt, ArePast, IsReduced, IsClear, IsPivot, reduce, scaled, cleared, placed, inserted}
-use Rattle.lin_alg.specs.FieldLaws.{nought-plus, less-nought, less-at-nought, less-own, less-coefficient, less-same, less-self, less-plus, less-times, less-back, times-nought, times-neg, unit-times, nought-times}
-use Rattle.lin_alg.specs.SpanLaws.{funext, less-at, in_span-nought, in_span-plus, in_span-times, in_span-past, in_span-head, in_span-less, in_span-at, order, unit-not-nought}
+use Rattle.lin_alg.specs.Reduced.{EndsAt, ArePast, IsReduced, IsClear, reduce, scaled, cleared, placed, inserted}
+use Rattle.lin_alg.specs.FieldLaws.{less-nought, less-own, less-self, less-back, times-nought, times-neg, unit-times}
+use Rattle.lin_alg.specs.SpanLaws.{funext, less-at, in_span-nought, in_span-plus, in_span-times, in_span-past, in_span-head, in_span-less, order, unit-not-nought}
 
 module _ {K : Type 0} (f : FieldOn K) where
   pub span-subspace : (rs : List (ℕ × (ℕ → K))) → IsSubspace f (IsInSpan f rs)

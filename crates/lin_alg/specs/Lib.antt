@@ -32,3 +32,4 @@ pub mod WitnessLaws
 pub mod MoveLaws
 pub mod ImageLaws
 pub mod CompareLaws
+pub mod IndependenceLaws

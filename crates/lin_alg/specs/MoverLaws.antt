@@ -3,7 +3,7 @@
 -- mover-dot, mover-row: row i of A(q) - 1 at v is the difference of A(q) v and v at i
 -- movers-fixed: the rows vanish on v exactly where q fixes v
 -- mover-equations: a form of their span is the equations of Fix(q)
-use Rattle.std.proofs.Common.{◌≡◌, ℕ, suc, zero, ◌<◌, ◌≤◌, ◌⊎◌, inl, inr, refl, sym, ◌∙◌, ap, subst, List, [], ◌∷◌, ◌↔◌, arith, lt-ltb, le-ltb, if◌then◌else◌}
+use Rattle.std.proofs.Common.{◌≡◌, ℕ, suc, zero, ◌<◌, ◌≤◌, inl, inr, sym, ◌∙◌, ap, subst, List, [], ◌∷◌, ◌↔◌, arith, lt-ltb, le-ltb, if◌then◌else◌}
 use Rattle.cyclo24.specs.ExactField.{ExactField, Value}
 use Rattle.lin_alg.specs.Action.{Action, IsFixed, entry_of, image}
 use Rattle.lin_alg.specs.EquationLaws.{dot-unit}

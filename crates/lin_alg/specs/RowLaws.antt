@@ -3,7 +3,7 @@
 -- vector-past: a row is 0 behind its end
 -- width-form: reduced rows of one width are a form
 -- equality-told: where the order is that of exact values, equality is too
-use Rattle.std.proofs.Common.{◌≡◌, ◌↔◌, ℕ, Bool, true, ◌<◌, ◌≤◌, refl, sym, ◌∙◌, ap, List, [], ◌∷◌, length, map, get_or, arith, nat_eq, ◌||◌}
+use Rattle.std.proofs.Common.{◌≡◌, ◌↔◌, ℕ, Bool, true, ◌≤◌, refl, sym, ◌∙◌, ap, List, [], ◌∷◌, length, map, arith, nat_eq, ◌||◌}
 use Rattle.std.proofs.lemmas.List.{get_or_past, length-map}
 use Rattle.std.specs.declared.cmp.Ordering.{Ordering}
 use Rattle.std.specs.Ordering.{eq_by_cmp, is_eq}

@@ -2,6 +2,7 @@
 --
 -- combination f n x a: x 0 times row 0 of a, + .. + x (n - 1) times row n - 1
 -- AreIndependent f n a: the first n rows of a are independent
+-- plain_rows a k: the first k rows; IsWideIndependent f n a: testing them is wide
 -- joined n u v: n entries of u, and v behind them
 -- joined_rows f n a k: the first k rows, each with its unit vector of n entries in front
 -- IsWideSolve f n a t: solving is wide
@@ -20,6 +21,17 @@ combination f n x a = λ j. dot f n x (λ i. a i j)
 -- only zeros combine the n rows to zero
 abbrev pub AreIndependent : {K : Type 0} → FieldOn K → ℕ → (ℕ → ℕ → K) → Type 0
 AreIndependent {K} f n a = (x : ℕ → K) → ((j : ℕ) → combination f n x a j ≡ f.nought) → (i : ℕ) → i < n → x i ≡ f.nought
+
+-- the first k rows
+abbrev pub plain_rows : {K : Type 0} → (ℕ → ℕ → K) → ℕ → List (ℕ × (ℕ → K))
+plain_rows a zero = []
+plain_rows a (suc k) = (0, a k) ∷ plain_rows a k
+
+-- testing n rows is wide: inserting a row into the one form of those before it
+abbrev pub IsWideIndependent : (f : ExactField) → ℕ → (ℕ → ℕ → Value f) → Type 0
+IsWideIndependent f n a =
+    (k : ℕ) × (k < n) × (rs : List (ℕ × (ℕ → Value f))) × IsReduced f.laws rs × AreSame (IsInSpan f.laws rs) (IsInSpan f.laws (plain_rows a k))
+    × IsWideInsert f rs (a k)
 
 -- n entries of u, and v behind them
 abbrev pub joined : {K : Type 0} → ℕ → (ℕ → K) → (ℕ → K) → ℕ → K

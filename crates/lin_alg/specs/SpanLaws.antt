@@ -4,11 +4,11 @@
 -- clear-nought: a member that is 0 in each pivot column is 0
 -- last-pivot: the last nonzero column of a member is a pivot
 -- reduced-unique: two reduced forms of one span are equal
-use Rattle.std.proofs.Common.{◌≡◌, ℕ, suc, zero, ◌<◌, ◌≤◌, ◌⊎◌, inl, inr, Bool, true, false, refl, sym, ◌∙◌, ap, subst, List, [], ◌∷◌, arith}
+use Rattle.std.proofs.Common.{◌≡◌, ℕ, ◌<◌, ◌≤◌, ◌⊎◌, inl, inr, true, false, refl, sym, ◌∙◌, ap, subst, List, [], ◌∷◌, arith}
 use Rattle.cyclo24.specs.FieldOn.{FieldOn}
 use Rattle.lin_alg.specs.Spans.{less, IsInSpan}
 use Rattle.lin_alg.specs.Reduced.{EndsAt, ArePast, IsReduced, IsClear, IsPivot}
-use Rattle.lin_alg.specs.FieldLaws.{nought-plus, less-nought, less-at-nought, less-own, less-coefficient, less-same, less-self, less-plus, less-times, less-back, times-nought}
+use Rattle.lin_alg.specs.FieldLaws.{less-nought, less-at-nought, less-coefficient, less-same, less-self, less-plus, less-times, times-nought}
 
 pub funext : {A B : Type 0} {f g : A → B} → ((x : A) → f x ≡ g x) → f ≡ g
 funext h = λ i. λ x. h x i

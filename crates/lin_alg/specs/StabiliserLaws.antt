@@ -3,13 +3,12 @@
 -- generic_member: a member of a subspace that lies only in those of finitely many subspaces that hold all of it
 -- fixed-subspace: what an element fixes is a subspace
 -- whole_stabiliser: a vector fixed by nothing more than the subspace is
-use Rattle.std.proofs.Common.{◌≡◌, ℕ, suc, zero, ◌<◌, ◌≤◌, ◌⊎◌, inl, inr, Bool, true, false, refl, sym, ◌∙◌, ap, subst, arith}
+use Rattle.std.proofs.Common.{◌≡◌, ℕ, suc, zero, ◌<◌, ◌⊎◌, inl, inr, false, sym, ◌∙◌, ap, subst, arith}
 use Rattle.cyclo24.specs.FieldOn.{FieldOn, ones}
 use Rattle.cyclo24.specs.ExactField.{ExactField, Value}
 use Rattle.lin_alg.specs.Action.{Action, IsFixed, entry_of}
 use Rattle.lin_alg.specs.ActionLaws.{fixed-plus}
 use Rattle.lin_alg.specs.FieldLaws.{times-nought}
-use Rattle.lin_alg.specs.Rows.{vector}
 use Rattle.lin_alg.specs.Spans.{IsSubspace}
 use Rattle.lin_alg.specs.TotalLaws.{total-nought, total-same, total-times}
 use Rattle.lin_alg.specs.UnionLaws.{free_number, lower, more, two-points}

@@ -2,9 +2,9 @@
 --
 -- total-same: equal terms; total-nought: zero terms; total-plus: sums of terms; total-times, times-total: multiples
 -- total-swap: the order of two sums
-use Rattle.std.proofs.Common.{◌≡◌, ℕ, suc, zero, ◌<◌, ◌≤◌, refl, sym, ◌∙◌, ap, arith}
+use Rattle.std.proofs.Common.{◌≡◌, ℕ, suc, zero, ◌<◌, refl, sym, ◌∙◌, ap, arith}
 use Rattle.cyclo24.specs.FieldOn.{FieldOn}
-use Rattle.lin_alg.specs.FieldLaws.{plus-swap, times-nought, nought-times}
+use Rattle.lin_alg.specs.FieldLaws.{plus-swap, times-nought}
 use Rattle.lin_alg.specs.Sums.{total}
 
 module _ {K : Type 0} (f : FieldOn K) where

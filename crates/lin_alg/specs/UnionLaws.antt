@@ -2,10 +2,10 @@
 --
 -- two-points: a subspace that holds two points of a line holds the line
 -- avoiding: a vector outside finitely many proper subspaces
-use Rattle.std.proofs.Common.{◌≡◌, ℕ, suc, zero, ◌<◌, ◌≤◌, ◌+◌, ◌-◌, zero-add, ◌⊎◌, inl, inr, Bool, true, false, refl, sym, ◌∙◌, ap, subst, arith}
+use Rattle.std.proofs.Common.{◌≡◌, ℕ, suc, zero, ◌<◌, ◌≤◌, ◌+◌, ◌-◌, zero-add, ◌⊎◌, inl, inr, false, sym, ◌∙◌, ap, subst, arith}
 use Rattle.cyclo24.specs.FieldOn.{FieldOn, ones}
-use Rattle.lin_alg.specs.Spans.{less, IsSubspace}
-use Rattle.lin_alg.specs.FieldLaws.{nought-plus, neg-plus, unit-times, plus-times, neg-plus-neg, plus-swap, times-neg}
+use Rattle.lin_alg.specs.Spans.{IsSubspace}
+use Rattle.lin_alg.specs.FieldLaws.{nought-plus, unit-times, plus-times}
 use Rattle.lin_alg.specs.SpanLaws.{funext}
 use Rattle.lin_alg.specs.InsertLaws.{has_less}
 

@@ -4,9 +4,9 @@
 -- moved-or, moved-free: it fixes all on which the rows of a form vanish, or moves one, one of the free basis
 -- free-fixed: what fixes the free basis fixes all
 -- form-stabiliser: one vector is fixed by nothing more than all on which the rows vanish
-use Rattle.std.proofs.Common.{◌≡◌, ℕ, suc, zero, ◌<◌, ◌≤◌, ◌⊎◌, inl, inr, Bool, true, false, refl, sym, ◌∙◌, ap, subst, List, [], ◌∷◌, ◌↔◌, arith, length}
+use Rattle.std.proofs.Common.{◌≡◌, ℕ, suc, zero, ◌<◌, ◌⊎◌, inl, inr, true, false, refl, sym, ◌∙◌, ap, subst, List, [], ◌∷◌, ◌↔◌, arith, length}
 use Rattle.std.specs.List.{slice_index}
-use Rattle.cyclo24.specs.FieldOn.{FieldOn, ones}
+use Rattle.cyclo24.specs.FieldOn.{FieldOn}
 use Rattle.cyclo24.specs.ExactField.{ExactField, Value}
 use Rattle.lin_alg.specs.Action.{Action, IsFixed, image}
 use Rattle.lin_alg.specs.EquationLaws.{dec, dot-clear, free-vanishes, vanish-subspace, within-subspace}
@@ -18,7 +18,6 @@ use Rattle.lin_alg.specs.FormLaws.{vanishes-subspace}
 use Rattle.lin_alg.specs.InsertLaws.{member-reduce, reduce-clear, reduce-has, span-least}
 use Rattle.lin_alg.specs.MoverLaws.{mover-row, mover-within}
 use Rattle.lin_alg.specs.Reduced.{free_columns, IsForm, IsWithin, reduce}
-use Rattle.lin_alg.specs.Rows.{vector}
 use Rattle.lin_alg.specs.Spans.{IsInSpan}
 use Rattle.lin_alg.specs.StabiliserLaws.{whole_stabiliser}
 use Rattle.lin_alg.specs.UnionLaws.{lower}

@@ -1,5 +1,5 @@
 // Laws over the definitions, as contracts of functions that do nothing.
-ghost use Rattle.std.specs.Prelude.{◌≡◌, ◌↔◌, ◌<◌, ◌⊎◌, ℕ, Bool, List, true, length};
+ghost use Rattle.std.specs.Prelude.{◌≡◌, ◌↔◌, ◌<◌, ◌⊎◌, ◌∷◌, ℕ, Bool, List, true, length};
 ghost use Rattle.std.specs.List.{slice_index};
 ghost use Rattle.cyclo24.specs.ExactField.{Value};
 ghost use Rattle.lin_alg.specs.Spans.{IsInSpan, AreSame};
@@ -25,6 +25,14 @@ pub fn equal_by_value<F: Field>()
 pub fn forms_are_unique<F: Field>()
     ensures span { (rs ss : List (ℕ × (ℕ → Value F.field))) → IsReduced F.field.laws rs → IsReduced F.field.laws ss → AreSame (IsInSpan F.field.laws rs) (IsInSpan F.field.laws ss) → rs ≡ ss }
     ensures zeros { (w : ℕ) (rs ss : List (ℕ × (ℕ → Value F.field))) → IsForm F.field.laws w rs → IsForm F.field.laws w ss → AreSame (Vanishes F.field.laws w rs) (Vanishes F.field.laws w ss) → rs ≡ ss }
+{}
+
+/// What is no reduced form: a zero row, a pivot that is 2, two pivots in one column, falling pivots.
+pub fn not_reduced<F: Field>()
+    ensures zero_row { (p : ℕ) (rs : List (ℕ × (ℕ → Value F.field))) → IsReduced F.field.laws ((p, λ _. F.field.laws.nought) ∷ rs) → ⊥ }
+    ensures pivot_of_two { (p : ℕ) (v : ℕ → Value F.field) (rs : List (ℕ × (ℕ → Value F.field))) → v p ≡ F.field.laws.plus F.field.laws.unit F.field.laws.unit → IsReduced F.field.laws ((p, v) ∷ rs) → ⊥ }
+    ensures one_column { (p : ℕ) (u v : ℕ → Value F.field) (rs : List (ℕ × (ℕ → Value F.field))) → IsReduced F.field.laws ((p, u) ∷ (p, v) ∷ rs) → ⊥ }
+    ensures falling { (p q : ℕ) (u v : ℕ → Value F.field) (rs : List (ℕ × (ℕ → Value F.field))) → q < p → IsReduced F.field.laws ((p, u) ∷ (q, v) ∷ rs) → ⊥ }
 {}
 
 /// Two whole forms of one width are equal exactly where their exact rows are, and exactly where their

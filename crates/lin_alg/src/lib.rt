@@ -1,10 +1,18 @@
 //! Exact linear algebra over a field: matrices, and the one reduced echelon form of a span.
+//!
+//! Source: the reduced row echelon form, with the pivot last in its row; it is the usual one of the
+//! mirrored columns. Conventions: rows and columns are numbered from 0; an equation is a row e with
+//! e.v = 0; column m of a matrix is the image of basis vector m; an equation moves by e A(q^-1).
+//! The contract for the layers above is `Echelon::insert`: it keeps the one reduced form of the span
+//! with the row, which vanishes where the row and the form before do. `Acts` is a group with matrices.
+//! The smallest call: `Echelon::new(alloc, 2)` and `insert` of a row of two values.
 #![tactic(auto)]
 
 mod acts;
 mod echelon;
 mod elimination;
 mod errors;
+mod independent;
 mod laws;
 mod matrix;
 mod memory;
@@ -14,9 +22,10 @@ mod solving;
 pub use acts::Acts;
 pub use echelon::{Echelon, Grew};
 pub use errors::LinError;
+pub use independent::are_independent;
 pub use laws::{
     equal_by_value, equal_forms, fixed_vectors, forms_are_equations, forms_are_unique, images,
-    no_finite_union,
+    no_finite_union, not_reduced,
 };
 pub use matrix::Matrix;
 pub use row::Row;

@@ -59,3 +59,6 @@ passed_product_within a x r f g k e h l =
 pub unit_square : (d : ℤ) → unsigned_abs d ≡ 1 → d *ℤ d ≡ pos 1
 unit_square (pos k) e = ap (λ n. pos n *ℤ pos n) e
 unit_square (negsuc k) e = let z : k ≡ 0 = omega (arith, e) in ap (λ n. negsuc n *ℤ negsuc n) z
+
+pub square_unit : (d : ℤ) → d *ℤ d ≡ pos 1 → unsigned_abs d ≡ 1
+square_unit d e = unit_abs (unsigned_abs d) (sym (unsigned_abs-mul d d) ∙ ap unsigned_abs e)

@@ -44,7 +44,7 @@ vector_cmp-equal v w e =
     same_vector v w (cc) (cc) (cc)
 
 -- neither is greater than the other: they are equal
-not_greater : (v w : Vector ℤ) → (vector_cmp v w ≡ Greater → ⊥) → (vector_cmp w v ≡ Greater → ⊥) → v ≡ w
+pub not_greater : (v w : Vector ℤ) → (vector_cmp v w ≡ Greater → ⊥) → (vector_cmp w v ≡ Greater → ⊥) → v ≡ w
 not_greater v w f g = by_order (vector_cmp v w) refl where
   by_order : (o : Ordering) → o ≡ vector_cmp v w → v ≡ w
   by_order Less e = absurd (g (vector_cmp-total.antisymm w v ∙ ap ordering_reverse (sym e)))

@@ -21,3 +21,4 @@ pub mod Order
 pub mod GroupView
 pub mod Pigeonhole
 pub mod GroupLaws
+pub mod ListUnique

@@ -53,7 +53,7 @@ impl Model for Group {
 }
 
 impl Group {
-    ghost use Rattle.std.specs.Prelude.{◌≡◌, ℕ, ◌<◌, ◌≤◌, IfOk, IfErr, IsTrue, MatchOption, length, slice_index_or};
+    ghost use Rattle.std.specs.Prelude.{◌≡◌, ℕ, ◌<◌, ◌≤◌, IfOk, IfErr, MatchOption, true, false, length, slice_index_or};
     ghost use Rattle.space_ops.specs.Op.{matrix_of, identity_op};
     ghost use Rattle.space_ops.specs.Words.{op_at, HasTooManyRotations, HasExtraTranslation};
     ghost use Rattle.space_ops.specs.Group.{AreGenerators, IsParentGroup, IsCauseOf};
@@ -81,9 +81,13 @@ impl Group {
 
     /// Whether `close` may be given these generators.
     pub fn can_close(generators: &[Op]) -> bool
-        ensures { IsTrue result → AreGenerators generators.now }
+        ensures yes { result ≡ true → AreGenerators generators.now }
+        ensures no { result ≡ false → AreGenerators generators.now → ⊥ }
     {
-        generators.len() <= 5 && are_generators(generators)
+        if generators.len() > 5 {
+            return false;
+        }
+        are_generators(generators)
     }
 
     /// The same group again.

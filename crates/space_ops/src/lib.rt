@@ -1,7 +1,11 @@
-//! Symmetry operations in Seitz notation, the lattices of the Hall symbols, and groups of operations.
+//! Symmetry operations in Seitz notation, the lattices of the Hall symbols, and the groups that
+//! operations generate with a lattice.
 //!
 //! Conventions: coordinates are columns, `x' = R x + t`; matrices stand row by row; translations are
 //! in twelfths of a cell edge. Hall symbols: S. R. Hall, Acta Cryst. A37 (1981) 517.
+//!
+//! For the layer above: `Group::close` lists the group of all words over generators, their inverses
+//! and lattice translations, or tells by its cause why it does not.
 #![tactic(auto)]
 
 mod closing;

@@ -4,6 +4,7 @@ ghost use Rattle.space_ops.specs.Op.{IsSmallRotation, IsShiftWithin, IsUnimodula
 
 use crate::rotation::{inverse_rotation, moved, rotation_product};
 use crate::shift::{negative_shift, shift_sum};
+use iso_text::OpText;
 
 /// The units of a translation: twelfths of a cell edge.
 pub const TWELFTHS: i32 = 12;
@@ -16,6 +17,16 @@ pub struct Op {
 }
 
 impl Op {
+    /// The operation that a file's words give: the same rows and twelfths.
+    pub fn from_text(text: &OpText) -> Op
+        ensures { result ≡ record { rot = text.now.rows; shift = text.now.shift } }
+    {
+        Op {
+            rot: text.rows,
+            shift: text.shift,
+        }
+    }
+
     /// The product {R|t}{S|s} = {RS | t + R s}, its translation not reduced. Condition: entries from
     /// -3 to 3, translations at most 1,000,000 in absolute value.
     pub fn compose(self, other: Op) -> Op

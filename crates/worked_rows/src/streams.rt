@@ -4,9 +4,11 @@ use iso_cli::{Status, isodist};
 use iso_text::{CalmSource, MemSink, MemSource};
 use std::test::Fail;
 
-const INVERSION: &str = "isodist 1\nhall -P 1\nirrep G1 1\nk 0 0 0\nmat x,y,z 1\nmat -x,-y,-z -1\nend\n";
+const INVERSION: &str =
+    "isodist 1\nhall -P 1\nirrep G1 1\nk 0 0 0\nmat x,y,z 1\nmat -x,-y,-z -1\nend\n";
 
-const INVERSION_REPORT: &str = "isodist 1 list\nirrep G1 dim 1 order 2\ntotal 2\ndirection 1 dim 0 order 2 index 1\nform 0\nkept 0 0 0\nop x,y,z\nop -x,-y,-z\ndirection 2 dim 1 order 1 index 2\nform a\nkept 0 0 0\nop x,y,z\n";
+const INVERSION_REPORT: &str =
+    "isodist 1 list\nirrep G1 dim 1 order 2\ntotal 2\ndirection 1 dim 0 order 2 index 1\nform 0\nkept 0 0 0\nop x,y,z\nop -x,-y,-z\ndirection 2 dim 1 order 1 index 2\nform a\nkept 0 0 0\nop x,y,z\n";
 
 #[test]
 fn a_source_that_fails_at_its_second_read(rt: HostRuntime) -> Result<(), Fail> {
@@ -57,7 +59,10 @@ fn words_that_are_not_built_leave_the_source(rt: HostRuntime) -> Result<(), Fail
     let mut said = MemSink::new(alloc, ROOM, 4096, no_faults(alloc))?;
     let status = run_with_source(alloc, &["demo"], &mut source, &mut written, &mut said);
     assert_eq!(rt; status.code(), 1);
-    assert_eq!(rt; said.as_slice(), b"isodist: refused: not built\n".as_slice());
+    assert_eq!(rt;
+        said.as_slice(),
+        b"isodist: refused: not built\n".as_slice()
+    );
     Ok(())
 }
 
@@ -68,7 +73,8 @@ fn a_file_of_the_greatest_length(rt: HostRuntime) -> Result<(), Fail> {
     for _ in bytes.len()..1_048_576 {
         bytes.push(b'#')?;
     }
-    let report = "isodist 1 check\nlattice P centrings 1 rotations 1\nop x,y,z\nsupercell 1 1 1 order 1\n";
+    let report =
+        "isodist 1 check\nlattice P centrings 1 rotations 1\nop x,y,z\nsupercell 1 1 1 order 1\n";
     expect_run(&rt, alloc, &["check"], &bytes, Status::Done, report, "")?;
     bytes.push(b'#')?;
     let line = "isodist: refused: file is longer than 1048576 bytes\n";
@@ -81,9 +87,33 @@ fn cuts_of_the_inversion_file(rt: HostRuntime) -> Result<(), Fail> {
     let bytes = INVERSION.as_bytes();
     let whole = "isodist: refused: not built\n";
     expect_run(&rt, alloc, &["check"], bytes, Status::Refused, "", whole)?;
-    expect_run(&rt, alloc, &["check"], &bytes[..70], Status::Refused, "", whole)?;
+    expect_run(
+        &rt,
+        alloc,
+        &["check"],
+        &bytes[..70],
+        Status::Refused,
+        "",
+        whole,
+    )?;
     let line = "isodist: refused: line 7: bad text\n";
-    expect_run(&rt, alloc, &["check"], &bytes[..69], Status::Refused, "", line)?;
+    expect_run(
+        &rt,
+        alloc,
+        &["check"],
+        &bytes[..69],
+        Status::Refused,
+        "",
+        line,
+    )?;
     let line = "isodist: refused: line 6: bad text\n";
-    expect_run(&rt, alloc, &["check"], &bytes[..65], Status::Refused, "", line)
+    expect_run(
+        &rt,
+        alloc,
+        &["check"],
+        &bytes[..65],
+        Status::Refused,
+        "",
+        line,
+    )
 }

@@ -187,7 +187,7 @@ fn the_longest_file(rt: HostRuntime) -> Result<(), Fail> {
         1_048_554,
         b"end",
     )?;
-    assert_eq!(rt; bytes.len(), MAX_FILE_BYTES);
+    assert_eq!(rt; bytes.len(), MAX_BYTES);
     assert_eq!(rt; bad_line(rt.alloc(), &bytes), Some(0));
     Ok(())
 }

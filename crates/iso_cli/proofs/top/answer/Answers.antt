@@ -1,4 +1,3 @@
-use Rattle.std.proofs.Common.{◌∙◌}
 use Rattle.iso_cli.proofs.Lines.{says_same, refused_answer}
 use Rattle.iso_cli.proofs.top.answer.Goals as goal
 

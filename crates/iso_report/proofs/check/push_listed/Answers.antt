@@ -1,4 +1,4 @@
-use Rattle.std.proofs.Common.{◌≡◌, ◌∙◌, ◌++◌, ◌+◌, ◌<◌, ◌≤◌, length, get_or, take, flat_map, sym, ap, arith, append_assoc}
+use Rattle.std.proofs.Common.{◌∙◌, ◌++◌, ◌<◌, ◌≤◌, length, get_or, take, flat_map, sym, ap, arith, append_assoc}
 use Rattle.std.proofs.lemmas.List.{take_all}
 use Rattle.space_ops.specs.Op.{identity_op}
 use Rattle.iso_report.specs.Check.{listed_line}

@@ -1,8 +1,7 @@
-use Rattle.std.proofs.Common.{◌≡◌, List, ◌∷◌, [], Result, Ok, Err, IfOk, Vec, Global, sym, subst}
+use Rattle.std.proofs.Common.{◌≡◌, List, Result, Ok, Err, IfOk, Vec, Global, sym, subst}
 use Rattle.iso_report.specs.Directions.{IsListing}
 use Rattle.iso_report.specs.Action.{Action}
 use Rattle.iso_report.specs.SignFile.{operations_of}
-use Rattle.iso_report.specs.SignRep.{action_of}
 use Rattle.iso_report.specs.SeenDirections.{seen}
 use Rattle.iso_report.specs.declared.direction.SignDirection.{SignDirection}
 use Rattle.iso_report.proofs.GroupLemmas.{conjugate_same, some_operation}

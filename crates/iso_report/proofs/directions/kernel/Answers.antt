@@ -1,6 +1,6 @@
 use Rattle.std.proofs.Common.{◌≡◌, ◌+◌, ℕ, List, length, slice_index_or, sym, ◌∙◌, subst, ap, refl, arith}
 use Rattle.iso_report.specs.SignDirections.{HasMembers}
-use Rattle.iso_report.specs.declared.sign_file.Sign.TheVariants.{Plus, Minus}
+use Rattle.iso_report.specs.declared.sign_file.Sign.TheVariants.{Plus}
 use Rattle.iso_report.proofs.MemberLemmas.{members_push, members_skip}
 use Rattle.iso_report.proofs.ListingLemmas.{apart}
 use Rattle.iso_report.proofs.directions.kernel.Goals as goal

@@ -1,4 +1,4 @@
-use Rattle.std.proofs.Common.{◌≡◌, ℕ, slice_index_or}
+use Rattle.std.proofs.Common.{◌≡◌, slice_index_or}
 use Rattle.iso_report.specs.SignDirections.{HasMembers}
 use Rattle.iso_report.specs.declared.sign_file.Sign.TheVariants.{Plus}
 use Rattle.iso_report.proofs.directions.kernel.Given as goal

@@ -1,4 +1,4 @@
-use Rattle.std.proofs.Common.{◌∙◌, sym, ap, ◌+◌, ◌∷◌, ◌++◌, take, drop}
+use Rattle.std.proofs.Common.{◌∙◌, sym}
 use Rattle.iso_report.proofs.FileLemmas.{no_space, name_of_front}
 use Rattle.iso_report.proofs.sign_file.name_before_space.Goals as goal
 

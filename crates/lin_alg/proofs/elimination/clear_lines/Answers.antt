@@ -1,11 +1,11 @@
-use Rattle.std.proofs.Common.{◌≡◌, ◌<◌, ◌≤◌, ℕ, length, map, set, List, get_or, refl, sym, ◌∙◌, ap, subst, arith, rules, true, false}
+use Rattle.std.proofs.Common.{◌≡◌, ◌<◌, ◌≤◌, ℕ, length, map, List, get_or, refl, sym, ◌∙◌, ap, subst, arith, rules, true, false}
 use Rattle.std.proofs.lemmas.List.{length-map, get_or-map, set-get_or}
 use Rattle.lin_alg.specs.Spans.{less}
 use Rattle.lin_alg.specs.Rows.{vector, exact_rows, HaveWidth}
 use Rattle.lin_alg.specs.Insertion.{IsWideLess}
 use Rattle.lin_alg.proofs.RowLemmas.{wide-at}
 use Rattle.lin_alg.specs.Insertion.{IsWideClear}
-use Rattle.lin_alg.proofs.ClearLemmas.{IsClearing, seen-set, wide-set, wide_clear-at, clearing-start, clearing-at, clearing-step, clearing-kept, clearing-all}
+use Rattle.lin_alg.proofs.ClearLemmas.{seen-set, wide-set, wide_clear-at, clearing-at, clearing-step, clearing-kept, clearing-all}
 use Rattle.lin_alg.proofs.elimination.clear_lines.Goals as goal
 use Rattle.lin_alg.proofs.elimination.clear_lines.Goals.{then-not-is_zero+in_ok-take_multiple, else-not-is_zero}
 

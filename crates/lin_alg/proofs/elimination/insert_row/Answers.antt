@@ -2,7 +2,7 @@ use Rattle.lin_alg.specs.Reduced.{reduce}
 use Rattle.lin_alg.specs.Rows.{vector, exact_rows}
 use Rattle.lin_alg.specs.Insertion.{IsWideClear, IsWideInsert}
 use Rattle.lin_alg.proofs.HeldLemmas.{wide_insert}
-use Rattle.std.proofs.Common.{◌≡◌, ◌<◌, ℕ, length, map, List, refl, sym, ◌∙◌, ap, subst, arith, rules}
+use Rattle.std.proofs.Common.{◌≡◌, ◌<◌, ℕ, length, map, List, refl, sym, ◌∙◌, ap, rules}
 use Rattle.lin_alg.proofs.PutLemmas.{wide-put}
 use Rattle.lin_alg.proofs.elimination.insert_row.Goals as goal
 

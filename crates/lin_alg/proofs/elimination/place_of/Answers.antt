@@ -1,4 +1,4 @@
-use Rattle.std.proofs.Common.{◌≡◌, ◌<◌, ◌≤◌, ℕ, length, map, List, get_or, arith, subst}
+use Rattle.std.proofs.Common.{◌≡◌, ◌<◌, ◌≤◌, ℕ, length, map, List, arith, subst}
 use Rattle.std.proofs.lemmas.List.{length-map}
 use Rattle.lin_alg.proofs.RowLemmas.{item-at}
 use Rattle.lin_alg.proofs.PlaceLemmas.{IsPlacing, placing-step, placing-here, placing-end}

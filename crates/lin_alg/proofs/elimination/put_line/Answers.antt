@@ -1,4 +1,4 @@
-use Rattle.std.proofs.Common.{◌≡◌, ◌<◌, ℕ, length, map, List, ◌++◌, ◌∷◌, [], Vec, vec_len, vec_capacity, refl, sym, ◌∙◌, ap, subst, arith, rules, true, is_ok, if◌then◌else◌}
+use Rattle.std.proofs.Common.{◌≡◌, ◌<◌, ℕ, length, map, List, Vec, vec_len, vec_capacity, ◌∙◌, ap, subst, arith, true, is_ok, if◌then◌else◌}
 use Rattle.std.specs.List.{insert}
 use Rattle.lin_alg.specs.Rows.{HaveLength}
 use Rattle.lin_alg.proofs.PutLemmas.{long-last, map-insert}

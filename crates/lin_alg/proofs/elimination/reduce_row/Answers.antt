@@ -1,10 +1,9 @@
-use Rattle.std.proofs.Common.{◌≡◌, ℕ, ◌<◌, ◌≤◌, ◌+◌, refl, sym, ◌∙◌, ap, subst, arith, rules, length, false, true, not, map, get_or, List}
+use Rattle.std.proofs.Common.{◌≡◌, ℕ, ◌<◌, ◌≤◌, sym, ◌∙◌, ap, rules, length, false, true, map, get_or, List}
 use Rattle.std.proofs.lemmas.List.{length-map}
 use Rattle.lin_alg.specs.Spans.{less}
-use Rattle.lin_alg.specs.Rows.{vector, HaveWidth, exact_rows}
+use Rattle.lin_alg.specs.Rows.{vector, exact_rows}
 use Rattle.lin_alg.specs.Insertion.{IsWideLess, IsWideReduce}
-use Rattle.lin_alg.proofs.VectorLemmas.{vector-at}
-use Rattle.lin_alg.proofs.RowLemmas.{item-at, wide-at, IsReducing, reducing-step, reducing-kept, reducing-wide, reducing-all}
+use Rattle.lin_alg.proofs.RowLemmas.{item-at, wide-at, reducing-step, reducing-kept, reducing-wide, reducing-all}
 use Rattle.lin_alg.proofs.elimination.reduce_row.Goals as goal
 use Rattle.lin_alg.proofs.elimination.reduce_row.Goals.{then-not-is_zero+in_ok-take_multiple, else-not-is_zero, After-line-item}
 

@@ -1,9 +1,9 @@
-use Rattle.std.proofs.Common.{◌≡◌, ◌<◌, ◌≤◌, ℕ, length, refl, sym, ◌∙◌, ap, arith, true}
+use Rattle.std.proofs.Common.{◌≡◌, ◌<◌, ◌≤◌, length, sym, ◌∙◌, ap, arith, true}
 use Rattle.lin_alg.specs.Reduced.{scaled}
 use Rattle.lin_alg.specs.Rows.{vector}
 use Rattle.lin_alg.specs.FieldLaws.{times-nought}
 use Rattle.lin_alg.proofs.VectorLemmas.{vector-past}
-use Rattle.lin_alg.proofs.WriteLemmas.{IsWritten, written-start, written-set, written-kept, written-all}
+use Rattle.lin_alg.proofs.WriteLemmas.{IsWritten, written-set, written-kept, written-all}
 use Rattle.lin_alg.proofs.elimination.scale.Goals as goal
 use Rattle.lin_alg.proofs.elimination.scale.Goals.{then-not-is_zero+in_ok-row, else-not-is_zero}
 

@@ -1,4 +1,4 @@
-use Rattle.std.proofs.Common.{◌≡◌, ℕ, ◌<◌, ◌≤◌, refl, sym, ◌∙◌, ap, subst, arith, length, false, true, not, set}
+use Rattle.std.proofs.Common.{◌≡◌, ◌<◌, arith, length, true}
 use Rattle.lin_alg.specs.Spans.{less}
 use Rattle.lin_alg.specs.Rows.{vector}
 use Rattle.lin_alg.proofs.VectorLemmas.{vector-at, IsTaken, taken-written, taken-kept, taken-all}

@@ -1,4 +1,4 @@
-use Rattle.std.proofs.Common.{◌≡◌, ◌↔◌, ℕ, List, true, ap, sym, subst}
+use Rattle.std.proofs.Common.{◌≡◌, ℕ, List, sym, subst}
 use Rattle.lin_alg.specs.Spans.{IsInSpan}
 use Rattle.lin_alg.specs.SpanLaws.{reduced-unique}
 use Rattle.lin_alg.specs.Rows.{exact_rows, HaveWidth}

@@ -1,4 +1,4 @@
-use Rattle.std.proofs.Common.{◌≡◌, ◌/◌, ◌%◌}
+use Rattle.std.proofs.Common.{◌/◌, ◌%◌}
 use Rattle.lin_alg.specs.Matrix.{entry}
 use Rattle.lin_alg.specs.Matrices.{mul}
 use Rattle.lin_alg.specs.Rows.{vector}

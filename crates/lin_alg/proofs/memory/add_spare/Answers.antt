@@ -1,4 +1,4 @@
-use Rattle.std.proofs.Common.{◌≡◌, ◌+◌, ◌<◌, ◌≤◌, ℕ, List, map, length, sym, ◌∙◌, ap, subst, arith, vec_len, Vec}
+use Rattle.std.proofs.Common.{◌≡◌, ◌+◌, ◌<◌, ◌≤◌, List, map, sym, ◌∙◌, ap, subst, arith, vec_len, Vec}
 use Rattle.lin_alg.specs.Rows.{HaveLength}
 use Rattle.lin_alg.proofs.MemoryLemmas.{long-append}
 use Rattle.lin_alg.proofs.memory.add_spare.Goals as goal

@@ -1,4 +1,4 @@
-use Rattle.std.proofs.Common.{◌≡◌, ◌+◌, ◌<◌, ℕ, List, take, drop, sym, ◌∙◌, ap, refl, true, false}
+use Rattle.std.proofs.Common.{◌≡◌, sym, ◌∙◌, ap, refl, true, false}
 use Rattle.lin_alg.specs.Rows.{vector}
 use Rattle.lin_alg.proofs.SolvingLemmas.{vector-dropped, vector-taken}
 use Rattle.lin_alg.proofs.solving.answer_of.Goals as goal

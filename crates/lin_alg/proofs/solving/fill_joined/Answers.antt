@@ -1,4 +1,4 @@
-use Rattle.std.proofs.Common.{◌≡◌, ◌<◌, ◌≤◌, ◌-◌, ℕ, ap, ◌∙◌, length, arith}
+use Rattle.std.proofs.Common.{◌≡◌, ◌<◌, ◌≤◌, ◌-◌, ◌∙◌, length, arith}
 use Rattle.lin_alg.specs.Rows.{vector}
 use Rattle.lin_alg.specs.Equations.{unit_vector}
 use Rattle.lin_alg.specs.Matrix.{entry}

@@ -1,4 +1,4 @@
-use Rattle.std.proofs.Common.{◌≡◌, ℕ, List, ◌∷◌, subst, ◌∙◌, ap}
+use Rattle.std.proofs.Common.{ℕ, ◌∷◌, subst}
 use Rattle.lin_alg.specs.Spans.{IsInSpan, AreSame}
 use Rattle.lin_alg.specs.Rows.{exact_rows}
 use Rattle.lin_alg.specs.Insertion.{IsWideInsert}

@@ -1,4 +1,4 @@
-use Rattle.std.proofs.Common.{◌≡◌, ◌<◌, ℕ, sym, ◌∙◌, ap, true, false, below_more}
+use Rattle.std.proofs.Common.{◌≡◌, sym, ◌∙◌, ap, true, below_more}
 use Rattle.lin_alg.specs.Rows.{vector}
 use Rattle.lin_alg.proofs.VectorLemmas.{vector-at}
 use Rattle.lin_alg.proofs.solving.is_zero.Goals as goal

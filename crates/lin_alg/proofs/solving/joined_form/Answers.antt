@@ -1,4 +1,4 @@
-use Rattle.std.proofs.Common.{◌≡◌, ◌+◌, ◌<◌, ℕ, suc, List, ◌∷◌, sym, ◌∙◌, ap, refl, true, add-one, vec_len, subst, inl}
+use Rattle.std.proofs.Common.{◌<◌, ℕ, suc, sym, ◌∙◌, refl, add-one, subst, inl}
 use Rattle.lin_alg.specs.Spans.{IsInSpan, AreSame}
 use Rattle.lin_alg.specs.Rows.{exact_rows}
 use Rattle.lin_alg.specs.Matrix.{entry}

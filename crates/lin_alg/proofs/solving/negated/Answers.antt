@@ -1,5 +1,4 @@
-use Rattle.std.proofs.Common.{◌≡◌, ◌<◌, ℕ, sym, ◌∙◌, ap, length, arith, vec_len}
-use Rattle.lin_alg.specs.Rows.{vector}
+use Rattle.std.proofs.Common.{◌≡◌, ◌<◌, sym, ◌∙◌, length, arith}
 use Rattle.lin_alg.proofs.SolvingLemmas.{negated-all}
 use Rattle.lin_alg.proofs.solving.negated.Goals as goal
 

@@ -1,10 +1,10 @@
-use Rattle.std.proofs.Common.{◌≡◌, ◌<◌, ◌≤◌, ◌-◌, ℕ, refl, sym, ◌∙◌, ap, length, arith}
+use Rattle.std.proofs.Common.{◌≡◌, ◌<◌, ◌≤◌, ◌-◌, ℕ, refl, sym, ◌∙◌, length, arith}
 use Rattle.lin_alg.specs.Rows.{vector}
 use Rattle.lin_alg.specs.RowLaws.{vector-past}
 use Rattle.lin_alg.specs.Solving.{joined}
 use Rattle.lin_alg.specs.SolvingLaws.{joined-front, joined-past}
 use Rattle.lin_alg.proofs.VectorLemmas.{vector-at}
-use Rattle.lin_alg.proofs.WriteLemmas.{IsWritten, written-set, written-all}
+use Rattle.lin_alg.proofs.WriteLemmas.{written-set, written-all}
 use Rattle.lin_alg.proofs.solving.place_target.Goals as goal
 
 pub loop-p-init : goal.loop-p-init

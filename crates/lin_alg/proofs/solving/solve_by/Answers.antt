@@ -1,6 +1,5 @@
-use Rattle.std.proofs.Common.{◌≡◌, ◌+◌, ◌<◌, ℕ, List, sym, ◌∙◌, ap, refl, subst, inr, IfSome, None}
-use Rattle.lin_alg.specs.Spans.{less, IsInSpan, AreSame}
-use Rattle.lin_alg.specs.Reduced.{IsReduced, IsClear}
+use Rattle.std.proofs.Common.{◌≡◌, ◌+◌, ◌<◌, ℕ, sym, ◌∙◌, ap, subst, inr, IfSome}
+use Rattle.lin_alg.specs.Spans.{less, IsInSpan}
 use Rattle.lin_alg.specs.Rows.{vector, exact_rows}
 use Rattle.lin_alg.specs.Matrix.{entry}
 use Rattle.lin_alg.specs.Insertion.{IsWideReduce}

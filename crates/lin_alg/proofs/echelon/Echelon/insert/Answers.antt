@@ -1,4 +1,4 @@
-use Rattle.std.proofs.Common.{◌≡◌, ◌↔◌, ℕ, Bool, true, false, refl, sym, ◌∙◌, ap, subst, List, ◌∷◌, map, length}
+use Rattle.std.proofs.Common.{◌≡◌, ◌↔◌, ℕ, true, refl, sym, ◌∙◌, ap, subst, List, ◌∷◌, map, length}
 use Rattle.lin_alg.specs.declared.echelon.Grew.TheVariants.{Yes}
 use Rattle.lin_alg.specs.Spans.{IsInSpan}
 use Rattle.lin_alg.specs.Rows.{exact_rows, vector, HaveWidth, HaveLength}

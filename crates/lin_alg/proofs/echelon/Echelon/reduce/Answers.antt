@@ -1,4 +1,4 @@
-use Rattle.std.proofs.Common.{◌≡◌, ℕ, List, map, ap, sym, ◌∙◌, subst, true}
+use Rattle.std.proofs.Common.{◌≡◌, ℕ, List, map, ap, ◌∙◌, subst, true}
 use Rattle.lin_alg.specs.Spans.{less, IsInSpan}
 use Rattle.lin_alg.specs.Reduced.{reduce, IsClear}
 use Rattle.lin_alg.specs.Rows.{vector, exact_rows}

@@ -1,4 +1,4 @@
-use Rattle.std.proofs.Common.{◌≡◌, ◌+◌, ◌<◌, ◌≤◌, ℕ, List, map, length, sym, ◌∙◌, ap, subst, arith, below_more, refl}
+use Rattle.std.proofs.Common.{◌≡◌, ◌<◌, ◌≤◌, ℕ, List, map, length, sym, ◌∙◌, subst, arith, below_more}
 use Rattle.std.specs.List.{slice_index}
 use Rattle.lin_alg.specs.Rows.{exact_rows, HaveWidth}
 use Rattle.lin_alg.specs.Equations.{free_vector}

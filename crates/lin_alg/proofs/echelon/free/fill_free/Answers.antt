@@ -1,6 +1,6 @@
-use Rattle.std.proofs.Common.{◌≡◌, ◌+◌, ◌-◌, ◌<◌, ◌≤◌, ℕ, List, map, drop, length, get_or, sym, ◌∙◌, ap, subst, arith}
+use Rattle.std.proofs.Common.{◌≡◌, ◌+◌, ◌-◌, ◌<◌, ℕ, List, map, drop, length, get_or, sym, ◌∙◌, ap, subst, arith}
 use Rattle.std.proofs.lemmas.List.{length-map}
-use Rattle.lin_alg.specs.Rows.{vector, exact_rows, HaveWidth}
+use Rattle.lin_alg.specs.Rows.{vector, exact_rows}
 use Rattle.lin_alg.specs.Equations.{free_vector}
 use Rattle.lin_alg.specs.Matrix.{entry}
 use Rattle.lin_alg.proofs.RowLemmas.{item-at, wide-at}

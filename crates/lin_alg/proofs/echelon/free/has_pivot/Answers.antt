@@ -1,4 +1,4 @@
-use Rattle.std.proofs.Common.{◌≡◌, ◌<◌, ℕ, List, map, length, sym, true}
+use Rattle.std.proofs.Common.{◌<◌, ℕ, List, map, length, sym}
 use Rattle.std.proofs.lemmas.List.{length-map}
 use Rattle.lin_alg.proofs.RowLemmas.{item-at}
 use Rattle.lin_alg.proofs.FreeLemmas.{pivot-here, pivot-next}

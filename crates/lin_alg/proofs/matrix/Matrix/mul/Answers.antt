@@ -1,7 +1,6 @@
-use Rattle.std.proofs.Common.{◌≡◌, ◌<◌, ◌≤◌, ◌*◌, ◌/◌, ◌%◌, ℕ, List, ap, sym, ◌∙◌, subst, length}
+use Rattle.std.proofs.Common.{◌≡◌, ◌*◌, ℕ, ap, sym, ◌∙◌, subst, length}
 use Rattle.std.proofs.lemmas.List.{with_items_is}
 use Rattle.std.specs.Vec.{with_items}
-use Rattle.lin_alg.specs.Rows.{vector}
 use Rattle.lin_alg.specs.Matrix.{MatrixView, entry}
 use Rattle.lin_alg.specs.Matrices.{mul}
 use Rattle.lin_alg.proofs.MatrixLemmas.{entry-filled, mul-under, mul-right}
