@@ -2,8 +2,8 @@
 # Counts the instructions of insertions into a form over K24, with valgrind, and the operations of
 # K24 that they need. Run it after `rt test lin_alg`, in the top folder: it measures the test binary
 # that this left. The rest is what isn't spent in the functions of cyclo24. The compiler writes two
-# operations into the loop, so that it holds them too: a test for zero of each entry (about 12
-# instructions), and of a difference what lies around its sum and its reduction (about 44).
+# operations into the loop, so that it holds them too: a test for zero of each entry (about 14
+# instructions), and of a difference what lies around its sum and its reduction (about 33).
 set -eu
 binary=crates/lin_alg/out/lin_alg_tests
 for rows in 24_by_24 27_by_1152; do
