@@ -6,7 +6,7 @@ use Rattle.lin_alg.specs.Spans.{less}
 use Rattle.lin_alg.specs.Reduced.{cleared}
 use Rattle.lin_alg.specs.Rows.{vector, exact_rows, HaveWidth}
 use Rattle.lin_alg.specs.Insertion.{IsWideLess}
-use Rattle.lin_alg.specs.FieldLaws.{less-nought}
+use Rattle.cyclo24.specs.FieldLaws.{less-nought}
 use Rattle.lin_alg.specs.SpanLaws.{funext}
 use Rattle.lin_alg.specs.Insertion.{IsWideClear}
 use Rattle.lin_alg.proofs.PlaceLemmas.{take-item, exact_rows-append}

@@ -1,7 +1,7 @@
 use Rattle.std.proofs.Common.{◌≡◌, ℕ, suc, zero, ◌+◌, ◌<◌, inl, inr, ◌||◌, ◌&&◌, Bool, true, false, sym, ◌∙◌, ap, subst, List, [], ◌∷◌, length, get_or, drop, arith, nat_eq, if◌then◌else◌}
 use Rattle.std.proofs.lemmas.Bool.Decides.{eqb_tells}
 use Rattle.cyclo24.specs.ExactField.{ExactField, Value}
-use Rattle.lin_alg.specs.FieldLaws.{nought-plus, less-at-nought}
+use Rattle.cyclo24.specs.FieldLaws.{nought-plus, less-at-nought}
 use Rattle.lin_alg.specs.Reduced.{IsReduced, is_pivot}
 use Rattle.lin_alg.specs.Rows.{vector, exact_rows}
 use Rattle.lin_alg.specs.Equations.{free_vector}

@@ -3,8 +3,8 @@ use Rattle.std.proofs.lemmas.Bool.Decides.{eqb_tells}
 use Rattle.std.proofs.lemmas.Nat.{div-mul-add, mod-mul-add}
 use Rattle.cyclo24.specs.FieldOn.{FieldOn}
 use Rattle.cyclo24.specs.ExactField.{ExactField, Value}
-use Rattle.lin_alg.specs.FieldLaws.{nought-plus, times-nought, nought-times}
-use Rattle.lin_alg.specs.TotalLaws.{total-same, total-nought}
+use Rattle.cyclo24.specs.FieldLaws.{nought-plus, times-nought, nought-times}
+use Rattle.cyclo24.specs.TotalLaws.{total-same, total-nought}
 use Rattle.lin_alg.specs.RowLaws.{vector-past}
 use Rattle.lin_alg.specs.Rows.{vector}
 use Rattle.lin_alg.specs.Matrix.{MatrixView, entry, with_entry}

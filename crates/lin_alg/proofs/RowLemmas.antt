@@ -6,7 +6,7 @@ use Rattle.lin_alg.specs.Spans.{less}
 use Rattle.lin_alg.specs.Reduced.{reduce}
 use Rattle.lin_alg.specs.Rows.{vector, exact_rows, HaveWidth}
 use Rattle.lin_alg.specs.Insertion.{IsWideLess, IsWideReduce}
-use Rattle.lin_alg.specs.FieldLaws.{less-nought}
+use Rattle.cyclo24.specs.FieldLaws.{less-nought}
 use Rattle.lin_alg.specs.SpanLaws.{funext}
 
 pub item-at : {X Y : Type 0} (h : X → Y) (xs : List X) (i : ℕ) (x : X) → i < length xs → x ≡ get_or xs i x → h x ≡ get_or (map h xs) i (h x)

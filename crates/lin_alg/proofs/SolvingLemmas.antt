@@ -2,7 +2,7 @@ use Rattle.std.proofs.Common.{◌≡◌, ℕ, suc, zero, ◌+◌, ◌-◌, ◌<�
 use Rattle.std.proofs.lemmas.List.{take_all, length-drop}
 use Rattle.cyclo24.specs.FieldOn.{FieldOn}
 use Rattle.cyclo24.specs.ExactField.{ExactField, Value}
-use Rattle.lin_alg.specs.FieldLaws.{neg-nought}
+use Rattle.cyclo24.specs.FieldLaws.{neg-nought}
 use Rattle.lin_alg.specs.Spans.{less, IsInSpan, AreSame}
 use Rattle.lin_alg.specs.Rows.{vector}
 use Rattle.lin_alg.specs.RowLaws.{vector-past}

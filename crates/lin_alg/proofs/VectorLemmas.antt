@@ -1,7 +1,7 @@
 use Rattle.std.proofs.Common.{◌≡◌, ℕ, ◌<◌, ◌≤◌, ◌+◌, ◌⊎◌, inl, inr, true, sym, ◌∙◌, ap, List, length, map, get_or, set, arith, length-set, below_more}
 use Rattle.std.proofs.lemmas.List.{get_or-map, get_or-set_same, get_or-set_other, map-set, get_or_past, length-map}
 use Rattle.lin_alg.specs.Spans.{less}
-use Rattle.lin_alg.specs.FieldLaws.{less-at-nought}
+use Rattle.cyclo24.specs.FieldLaws.{less-at-nought}
 use Rattle.lin_alg.specs.SpanLaws.{funext}
 use Rattle.cyclo24.specs.ExactField.{ExactField, Value}
 use Rattle.lin_alg.specs.Rows.{vector}

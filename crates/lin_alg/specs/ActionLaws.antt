@@ -10,8 +10,8 @@ use Rattle.lin_alg.specs.Action.{Action, AllBelow, IsAction, IsFixed, entry_of, 
 use Rattle.lin_alg.specs.EquationLaws.{dot-unit}
 use Rattle.lin_alg.specs.Equations.{unit_vector}
 use Rattle.lin_alg.specs.Matrices.{unit_entry}
-use Rattle.lin_alg.specs.Sums.{total}
-use Rattle.lin_alg.specs.TotalLaws.{times-total, total-plus, total-same, total-swap, total-times}
+use Rattle.cyclo24.specs.Sums.{total}
+use Rattle.cyclo24.specs.TotalLaws.{times-total, total-plus, total-same, total-swap, total-times}
 
 module _ (f : ExactField) (act : Action) where
   pub image-plus : (q : ℕ) (v w : ℕ → Value f) (i : ℕ) → image f act q (λ j. f.laws.plus (v j) (w j)) i ≡ f.laws.plus (image f act q v i) (image f act q w i)

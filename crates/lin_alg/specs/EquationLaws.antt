@@ -9,12 +9,12 @@ use Rattle.std.proofs.lemmas.Bool.Decides.{eqb_tells}
 use Rattle.cyclo24.specs.FieldOn.{FieldOn}
 use Rattle.lin_alg.specs.Spans.{less, IsInSpan, IsSubspace, HasRows}
 use Rattle.lin_alg.specs.Reduced.{reduce, EndsAt, ArePast, IsReduced, IsClear}
-use Rattle.lin_alg.specs.FieldLaws.{nought-plus, times-nought, nought-times, less-at-nought, less-own, plus-times, times-neg}
+use Rattle.cyclo24.specs.FieldLaws.{nought-plus, times-nought, nought-times, less-at-nought, less-own, plus-times, times-neg}
 use Rattle.lin_alg.specs.InsertLaws.{reduce-has, reduce-clear, member-reduce}
-use Rattle.lin_alg.specs.Sums.{total}
+use Rattle.cyclo24.specs.Sums.{total}
 use Rattle.lin_alg.specs.Equations.{dot, unit_vector, free_vector}
 use Rattle.lin_alg.specs.Reduced.{IsWithin, PivotsBelow}
-use Rattle.lin_alg.specs.TotalLaws.{total-same, total-nought, total-plus, total-times}
+use Rattle.cyclo24.specs.TotalLaws.{total-same, total-nought, total-plus, total-times}
 
 pub dec : (k n : ℕ) → (k < n) ⊎ (n ≤ k)
 dec k n = grind arith

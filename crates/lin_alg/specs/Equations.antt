@@ -6,7 +6,7 @@
 -- free_vector f rows j: the solution with 1 at column j, which has no pivot, and 0 at the other such columns
 use Rattle.std.specs.Prelude.{◌≡◌, ◌↔◌, ℕ, List, [], ◌∷◌, nat_eq, if◌then◌else◌}
 use Rattle.cyclo24.specs.FieldOn.{FieldOn}
-use Rattle.lin_alg.specs.Sums.{total}
+use Rattle.cyclo24.specs.Sums.{total}
 use Rattle.lin_alg.specs.Spans.{less, IsInSpan, HasRows}
 use Rattle.lin_alg.specs.Reduced.{IsForm, IsWithin}
 

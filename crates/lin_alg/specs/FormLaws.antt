@@ -12,7 +12,7 @@ use Rattle.lin_alg.specs.Reduced.{IsReduced, ArePast, PivotsBelow, IsForm, IsWit
 use Rattle.lin_alg.specs.SpanLaws.{reduced-unique}
 use Rattle.lin_alg.specs.InsertLaws.{span-rows, span-least, rows-mono}
 use Rattle.lin_alg.specs.Equations.{dot, Vanishes, IsEquationsOf}
-use Rattle.lin_alg.specs.TotalLaws.{total-same}
+use Rattle.cyclo24.specs.TotalLaws.{total-same}
 use Rattle.lin_alg.specs.EquationLaws.{vanish-subspace, within-subspace, vanishing-span}
 
 module _ {K : Type 0} (f : FieldOn K) (w : ℕ) where

@@ -9,7 +9,7 @@ use Rattle.std.proofs.Common.{◌≡◌, ℕ, suc, zero, ◌<◌, ◌≤◌, inl
 use Rattle.std.proofs.lemmas.Bool.Decides.{eqb_tells}
 use Rattle.std.specs.List.{slice_index}
 use Rattle.cyclo24.specs.FieldOn.{FieldOn}
-use Rattle.lin_alg.specs.FieldLaws.{less-at-nought}
+use Rattle.cyclo24.specs.FieldLaws.{less-at-nought}
 use Rattle.lin_alg.specs.Spans.{IsInSpan, HasRows}
 use Rattle.lin_alg.specs.Reduced.{ArePast, IsClear, IsWithin, IsForm, reduce, is_pivot, free_columns}
 use Rattle.lin_alg.specs.InsertLaws.{reduce-has, reduce-clear, member-reduce}

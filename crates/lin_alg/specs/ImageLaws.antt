@@ -16,8 +16,8 @@ use Rattle.lin_alg.specs.Moves.{AreMoves, Fixes, moved}
 use Rattle.lin_alg.specs.Reduced.{IsWithin}
 use Rattle.lin_alg.specs.SpanLaws.{funext}
 use Rattle.lin_alg.specs.Spans.{AreSame, HasRows, IsInSpan}
-use Rattle.lin_alg.specs.Sums.{total}
-use Rattle.lin_alg.specs.TotalLaws.{times-total, total-same, total-swap, total-times}
+use Rattle.cyclo24.specs.Sums.{total}
+use Rattle.cyclo24.specs.TotalLaws.{times-total, total-same, total-swap, total-times}
 
 pub inside_or_past : (i n : ℕ) → (i < n) ⊎ (n ≤ i)
 inside_or_past i n = grind arith

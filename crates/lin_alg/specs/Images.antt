@@ -4,7 +4,7 @@
 -- row_image f act q e: e A(q^-1), the equation e moved by q; row_images: each row moved
 use Rattle.std.specs.Prelude.{ℕ, ltb, List, [], ◌∷◌, if◌then◌else◌}
 use Rattle.cyclo24.specs.ExactField.{ExactField, Value}
-use Rattle.lin_alg.specs.Sums.{total}
+use Rattle.cyclo24.specs.Sums.{total}
 use Rattle.lin_alg.specs.Action.{Action, image_of, entry_of}
 use Rattle.lin_alg.specs.Moves.{Moves}
 

@@ -5,9 +5,9 @@
 -- independent-first: the first of independent rows are independent
 use Rattle.std.proofs.Common.{◌≡◌, ℕ, suc, zero, ◌<◌, ◌≤◌, inl, inr, true, false, refl, sym, ◌∙◌, ap, subst, arith, ltb, lt-ltb, le-ltb, nat_eq, if◌then◌else◌}
 use Rattle.cyclo24.specs.FieldOn.{FieldOn}
-use Rattle.lin_alg.specs.FieldLaws.{nought-times, neg-neg, times-neg, unit-times, neg-plus, neg-unique, neg-nought}
-use Rattle.lin_alg.specs.Sums.{total}
-use Rattle.lin_alg.specs.TotalLaws.{total-same}
+use Rattle.cyclo24.specs.FieldLaws.{nought-times, neg-neg, times-neg, unit-times, neg-plus, neg-unique, neg-nought}
+use Rattle.cyclo24.specs.Sums.{total}
+use Rattle.cyclo24.specs.TotalLaws.{total-same}
 use Rattle.lin_alg.specs.Spans.{less, IsInSpan}
 use Rattle.lin_alg.specs.SpanLaws.{funext, unit-not-nought}
 use Rattle.lin_alg.specs.InsertLaws.{span-subspace}

@@ -8,7 +8,7 @@ use Rattle.std.proofs.lemmas.Bool.{ltb-true, ltb-false}
 use Rattle.cyclo24.specs.FieldOn.{FieldOn}
 use Rattle.lin_alg.specs.Spans.{less, IsInSpan, IsSubspace, HasRows}
 use Rattle.lin_alg.specs.Reduced.{EndsAt, ArePast, IsReduced, IsClear, reduce, scaled, cleared, placed, inserted}
-use Rattle.lin_alg.specs.FieldLaws.{less-nought, less-own, less-self, less-back, times-nought, times-neg, unit-times}
+use Rattle.cyclo24.specs.FieldLaws.{less-nought, less-own, less-self, less-back, times-nought, times-neg, unit-times}
 use Rattle.lin_alg.specs.SpanLaws.{funext, less-at, in_span-nought, in_span-plus, in_span-times, in_span-past, in_span-head, in_span-less, order, unit-not-nought}
 
 module _ {K : Type 0} (f : FieldOn K) where

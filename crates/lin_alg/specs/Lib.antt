@@ -1,4 +1,3 @@
-pub mod Sums
 pub mod Spans
 pub mod Reduced
 pub mod Rows
@@ -6,8 +5,6 @@ pub mod Insertion
 pub mod Equations
 pub mod Compared
 pub mod Echelon
-pub mod FieldLaws
-pub mod TotalLaws
 pub mod SpanLaws
 pub mod InsertLaws
 pub mod UnionLaws

@@ -12,7 +12,7 @@
 use Rattle.std.specs.Prelude.{◌≡◌, ℕ, ◌<◌, ◌/◌, ◌%◌, nat_eq, if◌then◌else◌}
 use Rattle.iso_text.specs.NumberedGroup.{Group}
 use Rattle.cyclo24.specs.FieldOn.{FieldOn}
-use Rattle.lin_alg.specs.Sums.{total}
+use Rattle.cyclo24.specs.Sums.{total}
 
 -- row times column
 abbrev pub mul : {K : Type 0} → FieldOn K → ℕ → (ℕ → ℕ → K) → (ℕ → ℕ → K) → ℕ → ℕ → K

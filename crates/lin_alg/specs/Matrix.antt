@@ -7,7 +7,7 @@
 -- IsWideMul f n d m a b: the product of an n by d and a d by m matrix is wide
 use Rattle.std.specs.Prelude.{◌≡◌, ℕ, ◌+◌, ◌*◌, ◌<◌, false, IsTrue, List, ◌⊎◌, ◌&&◌, ltb, nat_eq, if◌then◌else◌}
 use Rattle.cyclo24.specs.ExactField.{ExactField, Value}
-use Rattle.lin_alg.specs.Sums.{total}
+use Rattle.cyclo24.specs.Sums.{total}
 use Rattle.lin_alg.specs.Rows.{vector}
 
 -- a matrix as contracts see it

@@ -8,13 +8,13 @@ use Rattle.cyclo24.specs.ExactField.{ExactField, Value}
 use Rattle.lin_alg.specs.Action.{Action, IsFixed, entry_of, image}
 use Rattle.lin_alg.specs.EquationLaws.{dot-unit}
 use Rattle.lin_alg.specs.Equations.{Vanishes, dot, unit_vector}
-use Rattle.lin_alg.specs.FieldLaws.{neg-neg, neg-unique, plus-times, times-neg}
+use Rattle.cyclo24.specs.FieldLaws.{neg-neg, neg-unique, plus-times, times-neg}
 use Rattle.lin_alg.specs.Fixed.{Fix, IsFixForm, mover, movers}
 use Rattle.lin_alg.specs.FormLaws.{form-equations, vanishes-mono}
 use Rattle.lin_alg.specs.Matrices.{unit_entry}
 use Rattle.lin_alg.specs.Reduced.{IsForm, IsWithin}
 use Rattle.lin_alg.specs.Spans.{IsInSpan}
-use Rattle.lin_alg.specs.TotalLaws.{total-plus, total-same, total-times}
+use Rattle.cyclo24.specs.TotalLaws.{total-plus, total-same, total-times}
 use Rattle.lin_alg.specs.UnionLaws.{lower}
 
 module _ (f : ExactField) (act : Action) where

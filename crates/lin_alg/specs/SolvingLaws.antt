@@ -4,9 +4,9 @@
 -- solution, solution-only, no-solution: what is left of a target with zeros in front, taken to 0 in the pivot columns, tells the solution
 use Rattle.std.proofs.Common.{◌≡◌, ℕ, suc, zero, ◌<◌, ◌≤◌, ◌+◌, ◌-◌, inl, inr, refl, sym, ◌∙◌, ap, subst, List, [], ◌∷◌, arith, lt-ltb, le-ltb, if◌then◌else◌}
 use Rattle.cyclo24.specs.FieldOn.{FieldOn}
-use Rattle.lin_alg.specs.FieldLaws.{plus-times, unit-times, nought-plus, less-same, less-at-nought, neg-plus-neg, neg-neg}
-use Rattle.lin_alg.specs.TotalLaws.{total-same, total-plus, total-times}
-use Rattle.lin_alg.specs.Sums.{total}
+use Rattle.cyclo24.specs.FieldLaws.{plus-times, unit-times, nought-plus, less-same, less-at-nought, neg-plus-neg, neg-neg}
+use Rattle.cyclo24.specs.TotalLaws.{total-same, total-plus, total-times}
+use Rattle.cyclo24.specs.Sums.{total}
 use Rattle.lin_alg.specs.Spans.{less, IsInSpan, IsSubspace, HasRows, AreSame}
 use Rattle.lin_alg.specs.Reduced.{IsReduced, IsClear}
 use Rattle.lin_alg.specs.SpanLaws.{funext, less-at, clear-nought, unit-not-nought}

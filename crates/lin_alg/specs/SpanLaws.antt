@@ -8,7 +8,7 @@ use Rattle.std.proofs.Common.{◌≡◌, ℕ, ◌<◌, ◌≤◌, ◌⊎◌, inl
 use Rattle.cyclo24.specs.FieldOn.{FieldOn}
 use Rattle.lin_alg.specs.Spans.{less, IsInSpan}
 use Rattle.lin_alg.specs.Reduced.{EndsAt, ArePast, IsReduced, IsClear, IsPivot}
-use Rattle.lin_alg.specs.FieldLaws.{less-nought, less-at-nought, less-coefficient, less-same, less-self, less-plus, less-times, times-nought}
+use Rattle.cyclo24.specs.FieldLaws.{less-nought, less-at-nought, less-coefficient, less-same, less-self, less-plus, less-times, times-nought}
 
 pub funext : {A B : Type 0} {f g : A → B} → ((x : A) → f x ≡ g x) → f ≡ g
 funext h = λ i. λ x. h x i

@@ -8,9 +8,9 @@ use Rattle.cyclo24.specs.FieldOn.{FieldOn, ones}
 use Rattle.cyclo24.specs.ExactField.{ExactField, Value}
 use Rattle.lin_alg.specs.Action.{Action, IsFixed, entry_of}
 use Rattle.lin_alg.specs.ActionLaws.{fixed-plus}
-use Rattle.lin_alg.specs.FieldLaws.{times-nought}
+use Rattle.cyclo24.specs.FieldLaws.{times-nought}
 use Rattle.lin_alg.specs.Spans.{IsSubspace}
-use Rattle.lin_alg.specs.TotalLaws.{total-nought, total-same, total-times}
+use Rattle.cyclo24.specs.TotalLaws.{total-nought, total-same, total-times}
 use Rattle.lin_alg.specs.UnionLaws.{free_number, lower, more, two-points}
 
 -- P, where the answer is the second

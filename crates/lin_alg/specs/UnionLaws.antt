@@ -5,7 +5,7 @@
 use Rattle.std.proofs.Common.{◌≡◌, ℕ, suc, zero, ◌<◌, ◌≤◌, ◌+◌, ◌-◌, zero-add, ◌⊎◌, inl, inr, false, sym, ◌∙◌, ap, subst, arith}
 use Rattle.cyclo24.specs.FieldOn.{FieldOn, ones}
 use Rattle.lin_alg.specs.Spans.{IsSubspace}
-use Rattle.lin_alg.specs.FieldLaws.{nought-plus, unit-times, plus-times}
+use Rattle.cyclo24.specs.FieldLaws.{nought-plus, unit-times, plus-times}
 use Rattle.lin_alg.specs.SpanLaws.{funext}
 use Rattle.lin_alg.specs.InsertLaws.{has_less}
 

@@ -11,7 +11,7 @@ use Rattle.cyclo24.specs.ExactField.{ExactField, Value}
 use Rattle.lin_alg.specs.Action.{Action, IsFixed, image}
 use Rattle.lin_alg.specs.EquationLaws.{dec, dot-clear, free-vanishes, vanish-subspace, within-subspace}
 use Rattle.lin_alg.specs.Equations.{Vanishes, dot, free_vector}
-use Rattle.lin_alg.specs.FieldLaws.{neg-neg, neg-unique}
+use Rattle.cyclo24.specs.FieldLaws.{neg-neg, neg-unique}
 use Rattle.lin_alg.specs.FreeLaws.{free-span}
 use Rattle.lin_alg.specs.Fixed.{FixesAll, mover}
 use Rattle.lin_alg.specs.FormLaws.{vanishes-subspace}

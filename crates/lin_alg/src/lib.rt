@@ -18,6 +18,8 @@ mod matrix;
 mod memory;
 mod row;
 mod solving;
+#[cfg(test)]
+mod tests;
 
 pub use acts::Acts;
 pub use echelon::{Echelon, Grew};

@@ -1,7 +1,7 @@
 use Rattle.std.proofs.Common.{◌≡◌, ◌<◌, ◌≤◌, length, sym, ◌∙◌, ap, arith, true}
 use Rattle.lin_alg.specs.Reduced.{scaled}
 use Rattle.lin_alg.specs.Rows.{vector}
-use Rattle.lin_alg.specs.FieldLaws.{times-nought}
+use Rattle.cyclo24.specs.FieldLaws.{times-nought}
 use Rattle.lin_alg.proofs.VectorLemmas.{vector-past}
 use Rattle.lin_alg.proofs.WriteLemmas.{IsWritten, written-set, written-kept, written-all}
 use Rattle.lin_alg.proofs.elimination.scale.Goals as goal

@@ -1,5 +1,5 @@
 use Rattle.std.proofs.Common.{◌<◌, sym, ◌∙◌, arith}
-use Rattle.lin_alg.specs.FieldLaws.{plus-cancel, nought-plus}
+use Rattle.cyclo24.specs.FieldLaws.{plus-cancel, nought-plus}
 use Rattle.lin_alg.specs.SpanLaws.{unit-not-nought}
 use Rattle.lin_alg.proofs.laws.not_reduced.Goals as goal
 

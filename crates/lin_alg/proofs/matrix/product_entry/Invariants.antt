@@ -1,6 +1,6 @@
 use Rattle.std.proofs.Common.{◌≡◌}
 use Rattle.lin_alg.specs.Matrix.{entry}
-use Rattle.lin_alg.specs.Sums.{total}
+use Rattle.cyclo24.specs.Sums.{total}
 use Rattle.lin_alg.proofs.matrix.product_entry.Given as goal
 
 abbrev pub invariant-loop-k : goal.invariant-loop-k

@@ -3,7 +3,7 @@ use Rattle.lin_alg.specs.Spans.{less, IsInSpan}
 use Rattle.lin_alg.specs.Rows.{vector, exact_rows}
 use Rattle.lin_alg.specs.Matrix.{entry}
 use Rattle.lin_alg.specs.Insertion.{IsWideReduce}
-use Rattle.lin_alg.specs.TotalLaws.{total-same}
+use Rattle.cyclo24.specs.TotalLaws.{total-same}
 use Rattle.lin_alg.specs.Solving.{combination, joined}
 use Rattle.lin_alg.specs.SolvingLaws.{solution, solution-only, no-solution}
 use Rattle.lin_alg.proofs.solving.solve_by.Goals as goal
