@@ -26,7 +26,7 @@ no_slash c digit = grind (arith, nat_tests)
 no_point : (c : ℕ) → is_ascii_digit c ≡ true → is_byte 46 c ≡ false
 no_point c digit = grind (arith, nat_tests)
 
-digit_no_sign : (c : ℕ) → is_ascii_digit c ≡ true → is_sign c ≡ false
+pub digit_no_sign : (c : ℕ) → is_ascii_digit c ≡ true → is_sign c ≡ false
 digit_no_sign c digit = grind (arith, nat_tests)
 
 -- a decimal

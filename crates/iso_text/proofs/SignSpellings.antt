@@ -12,12 +12,12 @@ use Rattle.iso_text.specs.Spellings.{SpellsUnits, IsSignOf, SpellsPlace, SpellsT
 use Rattle.iso_text.proofs.BodyLemmas.{apart}
 use Rattle.iso_text.proofs.Steps.{guard, bind}
 use Rattle.iso_text.proofs.SpellingLemmas.{is_this, none_some, map_some}
-use Rattle.iso_text.proofs.PlaceSpellings.{units-sound, units-complete}
+use Rattle.iso_text.proofs.PlaceSpellings.{digit_no_sign, units-sound, units-complete}
 
-plus : (c : ℕ) → is_sign c ≡ true → (c == 45) ≡ false → c ≡ 43
+pub plus : (c : ℕ) → is_sign c ≡ true → (c == 45) ≡ false → c ≡ 43
 plus c sign other = grind (arith, nat_tests)
 
-sign_is : (c : ℕ) (t : Bool) → is_sign c ≡ true → (c == 45) ≡ t → IsSignOf (c == 45) (c ∷ [])
+pub sign_is : (c : ℕ) (t : Bool) → is_sign c ≡ true → (c == 45) ≡ t → IsSignOf (c == 45) (c ∷ [])
 sign_is c true sign is = inl (is, ap (λ x. x ∷ []) (is_this c 45 is))
 sign_is c false sign is = inr (inl (is, ap (λ x. x ∷ []) (plus c sign is)))
 
@@ -32,9 +32,6 @@ place-sound_cons c cs z false sign read =
 pub place-sound : (text : List ℕ) (z : ℤ) → place_of text ≡ Some z → SpellsPlace text z
 place-sound [] z read = none_some read
 place-sound (c ∷ cs) z read = place-sound_cons c cs z (is_sign c) refl read
-
-digit_no_sign : (c : ℕ) → is_ascii_digit c ≡ true → is_sign c ≡ false
-digit_no_sign c digit = grind (arith, nat_tests)
 
 -- a text of digits and a rest begins with no sign
 begins_unsigned : (digits rest : List ℕ) (c : ℕ) (cs : List ℕ) → c ∷ cs ≡ digits ++ rest → 0 < length digits → list_all is_ascii_digit digits ≡ true → is_sign c ≡ false

@@ -78,7 +78,7 @@ zero_length (x ∷ xs) e = absurd (omega (arith, is_zero (length (x ∷ xs)) e))
 some_length : {X : Type 0} (xs : List X) → (length xs == 0) ≡ false → 0 < length xs
 some_length xs e = is_more (length xs) e
 
-none_is : {X : Type 0} (o : Option X) → is_none o ≡ true → o ≡ None
+pub none_is : {X : Type 0} (o : Option X) → is_none o ≡ true → o ≡ None
 none_is None e = refl
 none_is (Some x) e = absurd cc
 

@@ -6,10 +6,9 @@ use Rattle.std.specs.List.{list_all}
 use Rattle.std.specs.Char.{is_ascii_digit}
 use Rattle.std.proofs.lemmas.Bool.{ltb-true, lt-ltb}
 use Rattle.std.proofs.lemmas.Bool.Decides.{nat_tests}
-use Rattle.iso_text.specs.Cuts.{front, back, is_byte}
+use Rattle.iso_text.specs.Cuts.{front, back, is_byte, is_sign}
 use Rattle.iso_text.specs.Digits.{whole_of, ratio_of}
 use Rattle.iso_text.specs.Numbers.{power_of_z, root_of, unit_of, coefficient_of, term, alone, product_of, term_of}
-use Rattle.iso_text.specs.Spellings.{SpellsDivisor, SpellsOver}
 use Rattle.iso_text.specs.SumSpellings.{SpellsPower, SpellsUnit, SpellsCoefficient, SpellsTerm}
 use Rattle.iso_text.specs.declared.numbers.Term.{Term}
 use Rattle.iso_text.specs.declared.numbers.Unit.{Unit}
@@ -17,7 +16,8 @@ use Rattle.iso_text.specs.declared.numbers.Unit.TheVariants.{One, Z, I, R2, R3, 
 use Rattle.iso_text.proofs.Steps.{guard, bind}
 use Rattle.iso_text.proofs.BodyLemmas.{apart}
 use Rattle.iso_text.proofs.SpellingLemmas.{Stops, Free, front-append, front-back, digits_free, whole-sound, whole-complete, ratio-sound, ratio-complete, is_this, none_some, map_some, le_true, true_le, choose}
-use Rattle.iso_text.proofs.PlaceSpellings.{free_all, Free-append}
+use Rattle.iso_text.proofs.PlaceSpellings.{free_all, Free-append, digit_no_sign}
+use Rattle.iso_text.proofs.FreeLemmas.{ratio_free}
 
 -- units
 root-sound : (text : List ℕ) (u : Unit) → root_of text ≡ Some u → ((text ≡ 50 ∷ []) × (u ≡ R2)) ⊎ ((text ≡ 51 ∷ []) × (u ≡ R3)) ⊎ ((text ≡ 54 ∷ []) × (u ≡ R6))
@@ -40,7 +40,7 @@ power-sound cs u e =
     let test = guard (nat_lt one.0 24) (Z one.0) u one.2 in
     record { digits = cs; power = one.0; joined = refl; whole = whole-sound 2 cs one.0 one.1; small = ltb-true one.0 24 test.0; value = sym test.1 }
 
-split_if : {X : Type 0} (b : Bool) (o p : Option X) (u : X) → (if b then o else p) ≡ Some u → ((b ≡ true) × (o ≡ Some u)) ⊎ ((b ≡ false) × (p ≡ Some u))
+pub split_if : {X : Type 0} (b : Bool) (o p : Option X) (u : X) → (if b then o else p) ≡ Some u → ((b ≡ true) × (o ≡ Some u)) ⊎ ((b ≡ false) × (p ≡ Some u))
 split_if true o p u e = inl (refl, e)
 split_if false o p u e = inr (refl, e)
 
@@ -114,31 +114,31 @@ term-sound negative text t e = let parts = front-back (is_byte 42) text in term-
 no_star : (c : ℕ) → is_ascii_digit c ≡ true → is_byte 42 c ≡ false
 no_star c digit = grind (arith, nat_tests)
 
-divisor_free : (text : List ℕ) (d : ℕ) → SpellsDivisor text d → Free (is_byte 42) text
-divisor_free text d (inl w) = subst (λ x. Free (is_byte 42) x) (sym w.0) (refl, tt)
-divisor_free text d (inr (inl w)) = subst (λ x. Free (is_byte 42) x) (sym w.0) (refl, tt)
-divisor_free text d (inr (inr (inl w))) = subst (λ x. Free (is_byte 42) x) (sym w.0) (refl, tt)
-divisor_free text d (inr (inr (inr (inl w)))) = subst (λ x. Free (is_byte 42) x) (sym w.0) (refl, tt)
-divisor_free text d (inr (inr (inr (inr (inl w))))) = subst (λ x. Free (is_byte 42) x) (sym w.0) (refl, tt)
-divisor_free text d (inr (inr (inr (inr (inr (inl w)))))) = subst (λ x. Free (is_byte 42) x) (sym w.0) (refl, tt)
-divisor_free text d (inr (inr (inr (inr (inr (inr (inl w))))))) = subst (λ x. Free (is_byte 42) x) (sym w.0) (refl, (refl, tt))
-divisor_free text d (inr (inr (inr (inr (inr (inr (inr w))))))) = subst (λ x. Free (is_byte 42) x) (sym w.0) (refl, (refl, tt))
-
-over_free : (text : List ℕ) (d : ℕ) → SpellsOver text d → Free (is_byte 42) text
-over_free [] d s = tt
-over_free (c ∷ cs) d s = (ap (λ x. x == 42) s.0, divisor_free cs d s.1)
+unit_free_of : (p : ℕ → Bool) (other : (c : ℕ) → is_ascii_digit c ≡ true → p c ≡ false) (text : List ℕ) (u : Unit) → p 122 ≡ false → p 105 ≡ false → p 114 ≡ false → SpellsUnit text u → Free p text
+unit_free_of p other text u z i r (inl s) = subst (λ x. Free p x) (sym s.joined) (z, digits_free p other s.digits s.whole.spelled.digits)
+unit_free_of p other text u z i r (inr (inl w)) = subst (λ x. Free p x) (sym w.0) (i, tt)
+unit_free_of p other text u z i r (inr (inr (inl w))) = subst (λ x. Free p x) (sym w.0) (r, (other 50 refl, tt))
+unit_free_of p other text u z i r (inr (inr (inr (inl w)))) = subst (λ x. Free p x) (sym w.0) (r, (other 51 refl, tt))
+unit_free_of p other text u z i r (inr (inr (inr (inr w)))) = subst (λ x. Free p x) (sym w.0) (r, (other 54 refl, tt))
 
 coefficient_free : (text : List ℕ) (n d : ℕ) → SpellsCoefficient text n d → Free (is_byte 42) text
-coefficient_free text n d s =
-    let r = s.ratio in
-    subst (λ x. Free (is_byte 42) x) (sym r.joined) (Free-append (is_byte 42) r.front r.over (digits_free (is_byte 42) no_star r.front r.whole.spelled.digits) (over_free r.over d r.divisor))
+coefficient_free text n d s = ratio_free (is_byte 42) no_star 5 text n d refl s.ratio
 
 unit_free : (text : List ℕ) (u : Unit) → SpellsUnit text u → Free (is_byte 42) text
-unit_free text u (inl s) = subst (λ x. Free (is_byte 42) x) (sym s.joined) (refl, digits_free (is_byte 42) no_star s.digits s.whole.spelled.digits)
-unit_free text u (inr (inl w)) = subst (λ x. Free (is_byte 42) x) (sym w.0) (refl, tt)
-unit_free text u (inr (inr (inl w))) = subst (λ x. Free (is_byte 42) x) (sym w.0) (refl, (refl, tt))
-unit_free text u (inr (inr (inr (inl w)))) = subst (λ x. Free (is_byte 42) x) (sym w.0) (refl, (refl, tt))
-unit_free text u (inr (inr (inr (inr w)))) = subst (λ x. Free (is_byte 42) x) (sym w.0) (refl, (refl, tt))
+unit_free text u s = unit_free_of (is_byte 42) no_star text u refl refl refl s
+
+coefficient_unsigned : (text : List ℕ) (n d : ℕ) → SpellsCoefficient text n d → Free is_sign text
+coefficient_unsigned text n d s = ratio_free is_sign digit_no_sign 5 text n d refl s.ratio
+
+unit_unsigned : (text : List ℕ) (u : Unit) → SpellsUnit text u → Free is_sign text
+unit_unsigned text u s = unit_free_of is_sign digit_no_sign text u refl refl refl s
+
+-- a term holds no sign behind its own
+pub term_unsigned : (negative : Bool) (text : List ℕ) (t : Term) → SpellsTerm negative text t → Free is_sign text
+term_unsigned negative text t (inl s) = coefficient_unsigned text s.num s.den s.coefficient
+term_unsigned negative text t (inr (inl s)) = unit_unsigned text s.unit s.spelled
+term_unsigned negative text t (inr (inr s)) =
+    subst (λ x. Free is_sign x) (sym s.joined) (Free-append is_sign s.front (42 ∷ s.behind) (coefficient_unsigned s.front s.num s.den s.coefficient) (refl, unit_unsigned s.behind s.unit s.spelled))
 
 digit_no_unit : (c : ℕ) (cs : List ℕ) → (c == 122) ≡ false → (c == 114) ≡ false → (c == 105) ≡ false → unit_of (c ∷ cs) ≡ None
 digit_no_unit c cs z r i = rw (z, r, i) refl

@@ -1,9 +1,12 @@
 -- The fractions, coordinates and tolerances that words write.
 --
+-- IsLowest z d v: v is z / d in lowest terms
 -- k_fraction_of text: a fraction of a wave vector, in lowest terms
 -- place_of text: a coordinate, in units of 1/12,000,000 of a cell edge
 -- tolerance_of text: a coordinate from 0 to below 1/4
-use Rattle.std.specs.Prelude.{ℕ, ℤ, pos, negsuc, ◌+◌, ◌-◌, ◌*◌, ◌/◌, ◌%◌, ◌^◌, Bool, true, false, List, [], ◌∷◌, length, nat_le, nat_lt, ◌==◌, ◌&&◌, if◌then◌else◌, Option, Some, None, option_and_then, neg_ℤ}
+use Rattle.std.specs.Prelude.{◌≡◌, ◌<◌, ◌*ℤ◌, ℕ, ℤ, pos, negsuc, ◌+◌, ◌-◌, ◌*◌, ◌/◌, ◌%◌, ◌^◌, Bool, true, false, List, [], ◌∷◌, length, nat_le, nat_lt, ◌==◌, ◌&&◌, if◌then◌else◌, Option, Some, None, option_and_then, neg_ℤ}
+use Rattle.std.specs.Int.{IsGcd}
+use Rattle.std.specs.Int.RustNames.{unsigned_abs}
 use Rattle.std.specs.Option.{option_map}
 use Rattle.iso_text.specs.Cuts.{front, back, is_byte, is_sign}
 use Rattle.iso_text.specs.Digits.{digits_of, whole_of, ratio_of}
@@ -24,6 +27,12 @@ common_divisor n d = if n % d == 0 then d else (if d % 2 == 0 && n % 2 == 0 then
 -- n / d in lowest terms
 abbrev pub lowest : Bool → ℕ → ℕ → Frac
 lowest negative n d = record { num = signed negative (n / common_divisor n d); den = d / common_divisor n d }
+
+-- v is z / d, and in lowest terms
+pub record IsLowest (z : ℤ) (d : ℕ) (v : Frac) : Type 0 where
+  pub same : v.num *ℤ pos d ≡ z *ℤ pos v.den
+  pub positive : 0 < v.den
+  pub coprime : IsGcd (unsigned_abs v.num) v.den 1
 
 -- numerators to 24 and denominators to 6
 abbrev pub k_ratio_of : Bool → ℕ × ℕ → Option Frac

@@ -4,12 +4,11 @@
 -- SpellsWhole most text n: one to so many digits
 -- SpellsRatio most text n d: a whole number, and optionally `/` and a denominator
 -- SpellsKFraction text v, SpellsPlace text units, SpellsTolerance text units: the fractions and coordinates
--- SpellsTerm minus text t, SpellsNumber text ts: a term without its sign, and a sum of 1 to 16 terms
 use Rattle.std.specs.Prelude.{◌≡◌, ◌⊎◌, ℕ, ℤ, pos, ◌+◌, ◌*◌, ◌/◌, ◌<◌, ◌≤◌, Bool, true, false, List, [], ◌∷◌, ◌++◌, length, codes}
 use Rattle.std.specs.List.{list_all}
 use Rattle.std.specs.Char.{is_ascii_digit}
 use Rattle.iso_text.specs.Digits.{decimal}
-use Rattle.iso_text.specs.Fractions.{signed, lowest, edge_units, point_units}
+use Rattle.iso_text.specs.Fractions.{signed, IsLowest, edge_units, point_units}
 use Rattle.iso_text.specs.declared.numbers.Frac.{Frac}
 
 -- digits, none or more, and their number
@@ -45,7 +44,7 @@ abbrev pub minus : Bool → List ℕ
 minus true = codes "-"
 minus false = []
 
--- a k fraction: an optional minus, one or two digits of at most 24, over 1, 2, 3, 4 or 6
+-- a k fraction in lowest terms: an optional minus, one or two digits of at most 24, over 1, 2, 3, 4 or 6
 pub record SpellsKFraction (text : List ℕ) (v : Frac) : Type 0 where
   pub negative : Bool
   pub body : List ℕ
@@ -55,7 +54,7 @@ pub record SpellsKFraction (text : List ℕ) (v : Frac) : Type 0 where
   pub ratio : SpellsRatio 2 body num den
   pub small : num ≤ 24
   pub divisor : den ≤ 6
-  pub value : v ≡ lowest negative num den
+  pub value : IsLowest (signed negative num) den v
 
 -- a plus or minus sign, or nothing
 abbrev pub IsSignOf : Bool → List ℕ → Type 0

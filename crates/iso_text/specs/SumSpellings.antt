@@ -2,9 +2,11 @@
 --
 -- SpellsUnit text u, SpellsCoefficient text n d: the two parts of a term
 -- SpellsTerm negative text t: a term without its sign
-use Rattle.std.specs.Prelude.{◌≡◌, ◌⊎◌, ℕ, ◌<◌, ◌≤◌, Bool, List, ◌++◌, codes}
+-- SpellsSum P text vs: what P spells with each sign, one after the other, the first sign optional
+-- SpellsNumber text ts: a sum of 1 to 16 terms
+use Rattle.std.specs.Prelude.{◌≡◌, ◌⊎◌, ℕ, ◌<◌, ◌≤◌, Bool, true, false, List, [], ◌∷◌, ◌++◌, length, codes}
 use Rattle.iso_text.specs.Numbers.{term}
-use Rattle.iso_text.specs.Spellings.{SpellsWhole, SpellsRatio}
+use Rattle.iso_text.specs.Spellings.{SpellsWhole, SpellsRatio, IsSignOf}
 use Rattle.iso_text.specs.declared.numbers.Term.{Term}
 use Rattle.iso_text.specs.declared.numbers.Unit.{Unit}
 use Rattle.iso_text.specs.declared.numbers.Unit.TheVariants.{One, Z, I, R2, R3, R6}
@@ -55,3 +57,32 @@ pub record SpellsProduct (negative : Bool) (text : List ℕ) (t : Term) : Type 0
 -- a term without its sign
 abbrev pub SpellsTerm : Bool → List ℕ → Term → Type 0
 SpellsTerm negative text t = SpellsRational negative text t ⊎ SpellsAlone negative text t ⊎ SpellsProduct negative text t
+
+-- a minus or a plus sign
+abbrev pub sign : Bool → List ℕ
+sign true = codes "-"
+sign false = codes "+"
+
+-- none or more items, each behind its sign
+abbrev pub SpellsMore : {V : Type 0} → (Bool → List ℕ → V → Type 0) → List ℕ → List V → Type 0
+SpellsMore P text [] = text ≡ []
+SpellsMore P text (v ∷ vs) = (negative : Bool) × (item : List ℕ) × (others : List ℕ) × (text ≡ sign negative ++ (item ++ others)) × P negative item v × SpellsMore P others vs
+
+-- one or more items, the sign of the first optional
+pub record SpellsSum {V : Type 0} (P : Bool → List ℕ → V → Type 0) (text : List ℕ) (vs : List V) : Type 0 where
+  pub negative : Bool
+  pub front : List ℕ
+  pub item : List ℕ
+  pub others : List ℕ
+  pub first : V
+  pub rest : List V
+  pub joined : text ≡ front ++ (item ++ others)
+  pub signed_by : IsSignOf negative front
+  pub spelled : P negative item first
+  pub more : SpellsMore P others rest
+  pub values : vs ≡ first ∷ rest
+
+-- a sum of 1 to 16 terms
+pub record SpellsNumber (text : List ℕ) (ts : List Term) : Type 0 where
+  pub sum : SpellsSum SpellsTerm text ts
+  pub few : length ts ≤ 16

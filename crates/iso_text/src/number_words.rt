@@ -1,7 +1,7 @@
 // Numbers in words.
-ghost use Rattle.std.specs.Prelude.{◌≡◌, ◌<◌, ◌≤◌, IfSome, IfOk, length, MatchOption};
+ghost use Rattle.std.specs.Prelude.{◌≡◌, ◌<◌, ◌≤◌, IfSome, IfOk, List, length, MatchOption};
 ghost use Rattle.iso_text.specs.Numbers.{power_of_z, root_of, unit_of, coefficient_of, term, alone, product_of, term_of, signed_term_of, terms_of, number_of};
-ghost use Rattle.iso_text.specs.SumSpellings.{SpellsTerm};
+ghost use Rattle.iso_text.specs.SumSpellings.{SpellsTerm, SpellsNumber};
 ghost use Rattle.iso_text.specs.declared.numbers.Term.{Term};
 
 use crate::NoMemory;
@@ -114,8 +114,7 @@ fn signed_term(text: &[u8]) -> Option<Term>
     }
 }
 
-/// The number that a text is: 1 to 16 terms, each but the first with a sign before it.
-pub fn number(alloc: Global, text: &[u8]) -> Result<Option<NumText>, NoMemory>
+fn parse_number(alloc: Global, text: &[u8]) -> Result<Option<NumText>, NoMemory>
     ensures { IfOk result (λ number. number ≡ number_of text.now) }
 {
     let mut terms = Vec::new(alloc);
@@ -138,4 +137,12 @@ pub fn number(alloc: Global, text: &[u8]) -> Result<Option<NumText>, NoMemory>
         return Ok(None);
     }
     Ok(Some(NumText::from_vec(terms)))
+}
+
+/// The number that a text is: 1 to 16 terms, each but the first with a sign before it.
+pub fn number(alloc: Global, text: &[u8]) -> Result<Option<NumText>, NoMemory>
+    ensures value { IfOk result (λ number. number ≡ number_of text.now) }
+    ensures spelled { IfOk result (λ number. MatchOption number ((ts : List Term) → SpellsNumber text.now ts → ⊥) (λ ts. SpellsNumber text.now ts)) }
+{
+    parse_number(alloc, text)
 }

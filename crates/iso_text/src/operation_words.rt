@@ -1,7 +1,9 @@
 // Operations in words, as `-y,x-y,z+1/3`.
-ghost use Rattle.std.specs.Prelude.{◌≡◌, ◌<◌, ◌≤◌, length};
+ghost use Rattle.std.specs.Prelude.{◌≡◌, ◌<◌, ◌≤◌, length, MatchOption};
 ghost use Rattle.iso_text.specs.Fractions.{signed};
 ghost use Rattle.iso_text.specs.Operations.{shift_of, letter_of, axis_of, or_shift, part_of, signed_part_of, empty_row, with_part, with_parts, row_of, coefficients, rows, operation_of};
+ghost use Rattle.iso_text.specs.OperationSpellings.{SpellsOperation};
+ghost use Rattle.iso_text.specs.declared.numbers.OpText.{OpText};
 
 use crate::cuts::{Mark, first_cut, split_round_mark};
 use crate::digits::ratio;
@@ -170,10 +172,7 @@ fn operation_of_rows(a: Row, b: Row, c: Row) -> OpText
     OpText { rows, shift }
 }
 
-/// The operation that a text is: three coordinates joined by `,`, each a sum of x, y or z, with a
-/// 2 or a 3 before it or not, and of a fraction of at most 120 over 1, 2, 3, 4, 6 or 12, none twice.
-/// The determinant isn't tested.
-pub fn operation(text: &[u8]) -> Option<OpText>
+fn parse_operation(text: &[u8]) -> Option<OpText>
     ensures { result ≡ operation_of text.now }
 {
     let (first, behind) = split_round_mark(text, Mark::Byte(b','));
@@ -182,4 +181,14 @@ pub fn operation(text: &[u8]) -> Option<OpText>
     let b = coordinate(second)?;
     let c = coordinate(third)?;
     Some(operation_of_rows(a, b, c))
+}
+
+/// The operation that a text is: three coordinates joined by `,`, each a sum of x, y or z, with a
+/// 2 or a 3 before it or not, and of a fraction of at most 120 over 1, 2, 3, 4, 6 or 12, none twice.
+/// The determinant isn't tested.
+pub fn operation(text: &[u8]) -> Option<OpText>
+    ensures value { result ≡ operation_of text.now }
+    ensures spelled { MatchOption result ((op : OpText) → SpellsOperation text.now op → ⊥) (λ op. SpellsOperation text.now op) }
+{
+    parse_operation(text)
 }

@@ -1,6 +1,6 @@
 use Rattle.std.proofs.Common.{length}
 use Rattle.iso_text.proofs.NumberLemmas.{IsRead}
-use Rattle.iso_text.proofs.number_words.number.Given as goal
+use Rattle.iso_text.proofs.number_words.parse_number.Given as goal
 
 abbrev pub invariant-loop-rest : goal.invariant-loop-rest
 invariant-loop-rest l = IsRead l.text l.terms.items l.rest
