@@ -15,6 +15,7 @@ pub mod Memory
 pub mod Name
 pub mod NameView
 pub mod NumberedGroup
+pub mod NumberedGroupLaws
 pub mod Numbers
 pub mod OperationSpellings
 pub mod Operations

@@ -2,7 +2,9 @@
 --
 -- Group: order, product and inverse
 -- IsGroup g: its laws; the right-hand laws follow from these
-use Rattle.std.specs.Prelude.{◌≡◌, ℕ, ◌<◌}
+-- word product generator is: the element of a word over numbered generators
+-- IsGenerated g n generator: each element is a word over the generators
+use Rattle.std.specs.Prelude.{◌≡◌, ℕ, ◌<◌, List, [], ◌∷◌}
 
 pub record Group : Type 0 where
   pub order : ℕ
@@ -16,3 +18,17 @@ pub record IsGroup (g : Group) : Type 0 where
   pub identity-product : (a : ℕ) → a < g.order → g.product 0 a ≡ a
   pub inverse-product : (a : ℕ) → a < g.order → g.product (g.inverse a) a ≡ 0
   pub product_assoc : (a b c : ℕ) → a < g.order → b < g.order → c < g.order → g.product (g.product a b) c ≡ g.product a (g.product b c)
+
+-- the element of a word over the generators
+abbrev pub word : (ℕ → ℕ → ℕ) → (ℕ → ℕ) → List ℕ → ℕ
+word product generator [] = 0
+word product generator (i ∷ is) = product (generator i) (word product generator is)
+
+-- each number of the list is below n
+abbrev pub AllBelow : ℕ → List ℕ → Type 0
+AllBelow n [] = Unit {0}
+AllBelow n (i ∷ is) = (i < n) × AllBelow n is
+
+-- each element is a word over the n generators
+abbrev pub IsGenerated : Group → ℕ → (ℕ → ℕ) → Type 0
+IsGenerated g n generator = (a : ℕ) → a < g.order → (is : List ℕ) × AllBelow n is × (a ≡ word g.product generator is)

@@ -6,7 +6,8 @@
 use Rattle.std.proofs.Common.{◌≡◌, ℕ, ◌<◌, sym, ◌∙◌, ap, subst, List, [], ◌∷◌, if◌then◌else◌}
 use Rattle.std.specs.Cmp.{nat_eq_equiv}
 use Rattle.cyclo24.specs.ExactField.{ExactField, Value}
-use Rattle.lin_alg.specs.Action.{Action, AllBelow, IsAction, IsFixed, entry_of, image, word}
+use Rattle.iso_text.specs.NumberedGroup.{word, AllBelow}
+use Rattle.lin_alg.specs.Action.{Action, IsAction, IsFixed, entry_of, image}
 use Rattle.lin_alg.specs.EquationLaws.{dot-unit}
 use Rattle.lin_alg.specs.Equations.{unit_vector}
 use Rattle.lin_alg.specs.Matrices.{unit_entry}

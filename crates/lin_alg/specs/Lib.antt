@@ -20,7 +20,6 @@ pub mod Action
 pub mod Fixed
 pub mod Moves
 pub mod Images
-pub mod GroupLaws
 pub mod ActionLaws
 pub mod StabiliserLaws
 pub mod FixedLaws
