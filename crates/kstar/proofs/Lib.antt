@@ -1,0 +1,4 @@
+pub mod Bounds
+pub mod Remainders
+pub mod Columns
+pub mod Appends

@@ -1,0 +1,10 @@
+pub mod WaveVector
+pub mod Multiples
+pub mod RowExpressions
+pub mod WaveVectorLaws
+pub mod Fraction
+pub mod Star
+pub mod PhaseLaws
+pub mod LittleLaws
+pub mod StarLaws
+pub mod StarView

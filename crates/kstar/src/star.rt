@@ -1,0 +1,163 @@
+// The star of a wave vector.
+ghost use Rattle.std.specs.Prelude.{◌≡◌, ℕ, ◌<◌, ◌*◌, IfOk, length, slice_index, slice_index_or, [], ◌∷◌, ◌++◌};
+ghost use Rattle.space_ops.specs.Op.{IsShiftWithin, vector_of};
+ghost use Rattle.kstar.specs.Fraction.{IsWaveVector, row_of, IsLowestRow};
+ghost use Rattle.kstar.specs.Star.{AreNear, AreRowsAt, IsFirstBadPhase, row_in};
+ghost use Rattle.kstar.specs.StarView.{IsStar};
+
+use crate::image::images;
+use crate::numbers::{firsts_of, little_of, row_at};
+use crate::phase::{bad_phase, phase};
+use crate::wave_vector::{KVector, row, wave_vector};
+use iso_text::{Frac, NoMemory};
+use space_ops::{Group, Lattice};
+use std::alloc::Global;
+use std::marker::Model;
+use thiserror::Error;
+
+/// Why a wave vector has no star.
+#[derive(Clone, Copy, Debug, PartialEq, Eq, Error)]
+pub enum StarError {
+    /// The first k.c that is no multiple of 1/24, for a centring vector c; in lowest terms.
+    #[error("a phase of the wave vector is no multiple of 1/24")]
+    BadPhase(Frac),
+    /// Want of memory.
+    #[error("out of memory")]
+    NoMemory,
+}
+
+impl From<NoMemory> for StarError {
+    fn from(_: NoMemory) -> Self
+        ensures { result ≡ StarError.NoMemory }
+    {
+        StarError::NoMemory
+    }
+}
+
+/// The star of a wave vector under a group, with its little group.
+#[derive(Drop)]
+pub struct Star {
+    lattice: Lattice,
+    row: [i32; 3],
+    little: Vec<usize>,
+    by: Vec<usize>,
+    arms: Vec<[i32; 3]>,
+}
+
+impl Model for Star {
+    ghost use Rattle.kstar.specs.Star.{WaveStar};
+
+    ghost Value = { WaveStar };
+
+    ghost use Rattle.kstar.specs.StarView.{view_of, IsStar};
+
+    ghost view = { view_of };
+
+    ghost invariant = { IsStar };
+}
+
+fn add(rows: &mut Vec<[i32; 3]>, row: [i32; 3]) -> Result<(), NoMemory>
+    ensures { IfOk result (λ _. rows.new.items ≡ rows.old.items ++ row ∷ []) }
+{
+    match rows.push(row) {
+        Ok(()) => Ok(()),
+        Err(_) => Err(NoMemory),
+    }
+}
+
+/// The rows with these numbers.
+fn rows_at(alloc: Global, rows: &[[i32; 3]], numbers: &[usize]) -> Result<Vec<[i32; 3]>, NoMemory>
+    requires { (i : ℕ) → i < length numbers.now → slice_index numbers.now i < length rows.now }
+    ensures { IfOk result (λ chosen. AreRowsAt rows.now numbers.now (length numbers.now) chosen.items) }
+{
+    let mut chosen: Vec<[i32; 3]> = Vec::new(alloc);
+    for number in numbers {
+        add(&mut chosen, row_at(rows, *number))?;
+    }
+    Ok(chosen)
+}
+
+impl Star {
+    ghost use Rattle.std.specs.Prelude.{◌≡◌, ℕ, ◌<◌, ◌*◌, IfOk, length, slice_index, Err};
+    ghost use Rattle.space_ops.specs.Op.{vector_of};
+    ghost use Rattle.space_ops.specs.Words.{IsLatticeVector};
+    ghost use Rattle.kstar.specs.Fraction.{IsWaveVector, row_of, IsLowestRow};
+    ghost use Rattle.kstar.specs.WaveVector.{HasPhases, phase_of};
+    ghost use Rattle.kstar.specs.Star.{IsStarOf, IsFirstBadPhase, row_in};
+
+    /// The star of k under the group. Condition: each part of k has a denominator that divides 12,
+    /// and a numerator of at most 24 in absolute value.
+    pub fn new(alloc: Global, group: &Group, k: KVector) -> Result<Star, StarError>
+        requires { IsWaveVector k }
+        ensures star { IfOk result (λ star. IsStarOf group.now (row_of k) star) }
+        ensures phases { IfOk result (λ star. HasPhases group.now.lattice (row_of k)) }
+        ensures bad { (f : Frac) → result ≡ Err (StarError.BadPhase f) → IsFirstBadPhase group.now.lattice (row_of k) f }
+    {
+        let row = row(k);
+        let lattice = group.lattice();
+        if let Some(phase) = bad_phase(row, lattice) {
+            return Err(StarError::BadPhase(phase));
+        }
+        let images = match images(alloc, group, row) {
+            Ok(images) => images,
+            Err(_) => return Err(StarError::NoMemory),
+        };
+        let little = match little_of(alloc, &images, row, lattice) {
+            Ok(little) => little,
+            Err(_) => return Err(StarError::NoMemory),
+        };
+        let by = match firsts_of(alloc, &images, lattice) {
+            Ok(by) => by,
+            Err(_) => return Err(StarError::NoMemory),
+        };
+        let arms = match rows_at(alloc, &images, &by) {
+            Ok(arms) => arms,
+            Err(_) => return Err(StarError::NoMemory),
+        };
+        Ok(Star {
+            lattice,
+            row,
+            little,
+            by,
+            arms,
+        })
+    }
+
+    /// The numbers of the rotations of the little group, rising.
+    pub fn little(&self) -> &[usize]
+        ensures { result.now ≡ self.now.little }
+    {
+        &self.little
+    }
+
+    /// The number of arms.
+    pub fn arms(&self) -> usize
+        ensures { result ≡ length self.now.by }
+    {
+        self.by.len()
+    }
+
+    /// Arm i, from 0: k R^-1 for its representative, in lowest terms, not reduced into a cell.
+    pub fn arm(&self, i: usize) -> KVector
+        requires { i < length self.now.by }
+        ensures { IsLowestRow (row_in self.now.arms i) result }
+    {
+        wave_vector(self.arms[i])
+    }
+
+    /// The number of the representative of arm i.
+    pub fn by(&self, i: usize) -> usize
+        requires { i < length self.now.by }
+        ensures { result ≡ slice_index self.now.by i }
+    {
+        self.by[i]
+    }
+
+    /// The power of z = exp(2 pi i / 24) that is exp(-2 pi i k.t), for a lattice vector t in twelfths.
+    pub fn power(&self, t: [i32; 3]) -> u8
+        requires { IsLatticeVector self.now.lattice (vector_of t) }
+        ensures { result ≡ phase_of self.now.row (vector_of t) }
+    {
+        phase(self.row, t)
+    }
+}
