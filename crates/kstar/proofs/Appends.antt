@@ -1,11 +1,12 @@
 -- Lists that grow by one at the end.
-use Rattle.std.proofs.Common.{◌≡◌, refl, sym, ap, ◌∙◌, subst, ℕ, zero, suc, ◌<◌, ◌≤◌, ◌+◌, List, [], ◌∷◌, ◌++◌, length, get_or, Bool, true, false, ℤ, below_more, arith}
+use Rattle.std.proofs.Common.{◌≡◌, refl, sym, ap, ◌∙◌, subst, ℕ, ◌<◌, ◌+◌, List, [], ◌∷◌, ◌++◌, length, get_or, Bool, true, false, ℤ, below_more, arith}
 use Rattle.std.proofs.lemmas.List.{length-append, get_or_append_left}
 use Rattle.std.proofs.Math.Seq.{get_or-append_seam}
 use Rattle.space_ops.specs.Op.{vector_of, IsShiftWithin}
 use Rattle.space_ops.specs.Matrix.{Vector}
 use Rattle.space_ops.specs.Group.{Parent}
-use Rattle.kstar.specs.Star.{IsListOf, image_at, row_in, AreNear, AreAllImages, AreRowsAt}
+use Rattle.kstar.specs.Star.{IsListOf, image_at, row_in}
+use Rattle.kstar.specs.Rows.{AreNear, AreAllImages, AreRowsAt}
 
 length_more : {A : Type 0} (xs : List A) (x : A) → length (xs ++ x ∷ []) ≡ length xs + 1
 length_more xs x = let e : length (xs ++ x ∷ []) ≡ length xs + 1 = length-append xs (x ∷ []) in omega arith

@@ -1,5 +1,5 @@
 -- Bounds on the absolute values of whole numbers, and signed numbers that were passed by value.
-use Rattle.std.proofs.Common.{◌≡◌, subst, FitsSigned, w8, w32, w64, refl, ◌∙◌, ℕ, ◌*◌, ◌<◌, ◌≤◌, ◌^◌, ap, sym, ℤ, pos, negsuc, ◌*ℤ◌, ◌+ℤ◌, unsigned_abs, to_z, of_z, arith}
+use Rattle.std.proofs.Common.{◌≡◌, subst, FitsSigned, w32, w64, ◌∙◌, ℕ, ◌*◌, ◌<◌, ◌≤◌, ◌^◌, ap, sym, ℤ, pos, negsuc, ◌*ℤ◌, ◌+ℤ◌, unsigned_abs, to_z, of_z, arith}
 use Rattle.std.specs.Int.{Width}
 use Rattle.std.proofs.lemmas.Int.{ints, unsigned_abs-mul, to_z-of_z, fits_signed_from_abs}
 use Rattle.std.proofs.Math.Nat.{mul-le-mul_left, mul-le-mul_right}

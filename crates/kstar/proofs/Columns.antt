@@ -1,11 +1,10 @@
 -- Columns of rotations, and operations of a group.
-use Rattle.std.proofs.Common.{◌≡◌, subst, FitsSigned, w8, refl, ◌∙◌, ℕ, ◌<◌, ap, sym, ℤ, pos, ◌≤ℤ◌, List, [], ◌∷◌, length, arith}
+use Rattle.std.proofs.Common.{◌≡◌, subst, FitsSigned, w8, ◌∙◌, ℕ, ◌<◌, ap, sym, ℤ, pos, ◌≤ℤ◌, List, [], ◌∷◌, length, arith}
 use Rattle.std.proofs.lemmas.Int.{ints, to_z-of_z}
 use Rattle.space_ops.specs.declared.op.Op.{Op}
 use Rattle.space_ops.specs.Whole.{whole}
-use Rattle.space_ops.specs.Matrix.{Matrix}
 use Rattle.space_ops.specs.Seitz.{Seitz, inverse_matrix}
-use Rattle.space_ops.specs.Op.{IsWithin, IsShiftWithin, IsSmallMatrix, IsUnimodular, seitz_of, inverse_of, number_at}
+use Rattle.space_ops.specs.Op.{IsWithin, IsShiftWithin, IsSmallMatrix, seitz_of, inverse_of, number_at}
 use Rattle.space_ops.specs.OpLaws.{seitz_of-inverse_of}
 use Rattle.space_ops.specs.LeastShift.{IsInCell}
 use Rattle.space_ops.specs.Words.{op_at}

@@ -1,5 +1,5 @@
 -- Tests of remainders.
-use Rattle.std.proofs.Common.{◌≡◌, subst, FitsSigned, refl, ◌∙◌, ℕ, zero, suc, ◌<◌, ◌≤◌, ◌*◌, ◌%◌, ◌-◌, ap, sym, ℤ, pos, negsuc, ◌*ℤ◌, ◌+ℤ◌, neg_ℤ, unsigned_abs, to_z, of_z, true, false, eqb, w32, List, [], ◌∷◌, arith}
+use Rattle.std.proofs.Common.{◌≡◌, FitsSigned, refl, ◌∙◌, ℕ, zero, suc, ◌<◌, ◌*◌, ◌%◌, ◌-◌, ap, sym, ℤ, pos, negsuc, ◌*ℤ◌, ◌+ℤ◌, neg_ℤ, unsigned_abs, of_z, true, false, eqb, w32, [], ◌∷◌, arith}
 use Rattle.std.specs.Int.{Width, int_rem_euclid}
 use Rattle.std.specs.Int.RustNames.{int_div, int_rem}
 use Rattle.space_ops.specs.Whole.{whole}
@@ -32,11 +32,11 @@ below_factor : (a d m : ℕ) → m ≡ a * d → m < d → m ≡ 0
 below_factor zero d m e l = omega (arith, e)
 below_factor (suc a) d m e l = absurd (omega (arith, e, l))
 
-no_size : (m : ℤ) → unsigned_abs m ≡ 0 → m ≡ pos 0
+pub no_size : (m : ℤ) → unsigned_abs m ≡ 0 → m ≡ pos 0
 no_size (pos n) e = ap pos e
 no_size (negsuc n) e = absurd (omega (arith, e))
 
-less_times : (x q d : ℤ) → (x +ℤ neg_ℤ q) *ℤ d ≡ x *ℤ d +ℤ neg_ℤ (q *ℤ d)
+pub less_times : (x q d : ℤ) → (x +ℤ neg_ℤ q) *ℤ d ≡ x *ℤ d +ℤ neg_ℤ (q *ℤ d)
 less_times x q d =
     solve whole whole_ring (at (pos 0) (x ∷ q ∷ d ∷ [])) (exps.mul (exps.add (V 0) (exps.neg (V 1))) (V 2)) (exps.add (exps.mul (V 0) (V 2)) (exps.neg (exps.mul (V 1) (V 2)))) refl
 

@@ -2,13 +2,13 @@
 --
 -- IsTwelfths f: the denominator divides 12, and the numerator is at most 24 in absolute value
 -- twelfths_of f: 12 times the fraction
--- IsLowest n d f: f is n / d in lowest terms
 -- part_of k i: part i of a wave vector
 -- IsWaveVector k: each part is in twelfths
 -- row_of k: the wave vector as a row of twelfths
 -- IsLowestRow row k: the parts of k are the twelfths of the row, in lowest terms
-use Rattle.std.specs.Prelude.{◌≡◌, ℕ, ◌<◌, ◌≤◌, ◌/◌, ◌%◌, ℤ, pos, ◌*ℤ◌, slice_index_or}
+use Rattle.std.specs.Prelude.{◌≡◌, ℕ, ◌<◌, ◌/◌, ◌%◌, ℤ, pos, ◌*ℤ◌, slice_index_or}
 use Rattle.iso_text.specs.declared.numbers.Frac.{Frac}
+use Rattle.iso_text.specs.Fractions.{IsLowest}
 use Rattle.kstar.specs.declared.wave_vector.KVector.{KVector}
 use Rattle.space_ops.specs.Op.{IsWithin}
 use Rattle.space_ops.specs.Matrix.{Vector}
@@ -22,12 +22,6 @@ pub record IsTwelfths (f : Frac) : Type 0 where
 -- 12 times the fraction
 abbrev pub twelfths_of : Frac → ℤ
 twelfths_of f = f.num *ℤ pos (12 / f.den)
-
--- f is n / d, and no fraction of this value has a smaller denominator
-pub record IsLowest (n : ℤ) (d : ℕ) (f : Frac) : Type 0 where
-  pub positive : 0 < f.den
-  pub same : f.num *ℤ pos d ≡ n *ℤ pos f.den
-  pub least : (x : ℤ) (m : ℕ) → 0 < m → x *ℤ pos d ≡ n *ℤ pos m → f.den ≤ m
 
 -- part i of a wave vector
 abbrev pub part_of : KVector → ℕ → Frac

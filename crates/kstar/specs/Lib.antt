@@ -4,7 +4,12 @@ pub mod RowExpressions
 pub mod WaveVectorLaws
 pub mod Fraction
 pub mod Star
+pub mod Rows
 pub mod PhaseLaws
 pub mod LittleLaws
+pub mod DecisionLaws
+pub mod ArmLaws
+pub mod OrderLaws
+pub mod Subgroup
 pub mod StarLaws
 pub mod StarView

@@ -5,22 +5,21 @@
 -- image-equivalent: equivalent rows have equivalent images
 -- little-identity, little-product, little-inverse: the little group is a subgroup
 -- phase-little: the phase of R t is that of t, for R of the little group
-use Rattle.std.proofs.Common.{◌≡◌, refl, sym, ap, ◌∙◌, subst, ℕ, ◌<◌, ℤ, pos, ◌+ℤ◌, ◌*ℤ◌, neg_ℤ, length, [], ◌∷◌}
+use Rattle.std.proofs.Common.{◌≡◌, refl, sym, ap, ◌∙◌, subst, ℕ, ◌<◌, ℤ, ◌+ℤ◌, neg_ℤ, length}
 use Rattle.space_ops.specs.declared.lattice.Lattice.{Lattice}
 use Rattle.space_ops.specs.Whole.{whole}
 use Rattle.space_ops.specs.WholeLaws.{whole_ring}
 use Rattle.space_ops.specs.Solve.{exps, solve}
-use Rattle.space_ops.specs.Matrix.{Matrix, Vector, row_times, matrix_times, image_under, vector_sum, minus_vector, unit_matrix}
+use Rattle.space_ops.specs.Matrix.{Matrix, Vector, matrix_times, image_under, unit_matrix}
 use Rattle.space_ops.specs.MatrixLaws.{same_vector, matrix_times-assoc, matrix_times-unit, unit-matrix_times}
 use Rattle.space_ops.specs.Seitz.{Seitz, inverse_matrix}
 use Rattle.space_ops.specs.Op.{IsUnimodular}
-use Rattle.space_ops.specs.OpLaws.{back-matrix, matrix-back, product_unimodular, inverse_unimodular}
+use Rattle.space_ops.specs.OpLaws.{back-matrix, matrix-back, product_unimodular}
 use Rattle.space_ops.specs.Words.{op_at, vector_difference, IsLatticeVector}
 use Rattle.space_ops.specs.Group.{Parent, IsParentGroup}
-use Rattle.space_ops.specs.GroupLaws.{parent-product, parent-inverse, parent-keeps, word-unimodular, rotation_group, rotation_group-lawful, place_of, place_of-is}
-use Rattle.iso_text.specs.NumberedGroup.{IsGroup}
+use Rattle.space_ops.specs.GroupLaws.{parent-product, parent-inverse, parent-keeps, word-unimodular, rotation_group, rotation_group-lawful, place_of-is}
 use Rattle.kstar.specs.Star.{image_at, IsLittle}
-use Rattle.kstar.specs.WaveVector.{IsMultiple, row_value, row_product, image_of, IsWhole, AreEquivalent, IsInLittleGroup, HasPhases, phase_of}
+use Rattle.kstar.specs.WaveVector.{IsMultiple, row_value, row_product, image_of, AreEquivalent, HasPhases, phase_of}
 use Rattle.kstar.specs.WaveVectorLaws.{row_value-product, row_value-difference, equivalent-refl, equivalent-sym, equivalent-trans, phases-lattice}
 use Rattle.kstar.specs.RowExpressions.{vk, vl, va, vb, env, product_exp, difference_exp}
 use Rattle.kstar.specs.PhaseLaws.{phase_of-equal}

@@ -1,9 +1,11 @@
 -- Whole multiples, and remainders.
 --
 -- multiple_zero, multiple_sum, multiple_minus: multiples of a number are a group under addition
--- rem-multiple, multiple-rem: x is a multiple of 144 where its remainder is 0; rem-multiple_of_six, multiple_of_six-rem, rem-dozens, dozens-rem: the same of 6 and 12
-use Rattle.std.proofs.Common.{◌≡◌, refl, sym, ap, ◌∙◌, ℕ, zero, suc, ◌<◌, ◌%◌, ◌/◌, ℤ, pos, negsuc, ◌+ℤ◌, ◌*ℤ◌, neg_ℤ, [], ◌∷◌, arith}
-use Rattle.std.proofs.lemmas.Int.{ints}
+-- rem-multiple, multiple-rem: x is a multiple of n where its remainder is 0
+use Rattle.std.proofs.Common.{◌≡◌, refl, sym, ap, ◌∙◌, ℕ, suc, ◌<◌, ◌+◌, ◌-◌, ◌*◌, ◌%◌, ◌/◌, ℤ, pos, negsuc, ◌+ℤ◌, ◌*ℤ◌, neg_ℤ, unsigned_abs, [], ◌∷◌, arith}
+use Rattle.std.proofs.lemmas.Int.{ints, int_rem_euclid_is}
+use Rattle.std.proofs.Math.IntN.{pos-*ℤ-pos, pos-*ℤ-negsuc}
+use Rattle.std.proofs.Math.Nat.{div-add-mod, mod-lt, mul-suc, mul_comm, mul-mod_right, zero-mul, zero-mod}
 use Rattle.std.specs.Int.{int_rem_euclid}
 use Rattle.space_ops.specs.Whole.{whole}
 use Rattle.space_ops.specs.WholeLaws.{whole_ring}
@@ -27,41 +29,32 @@ minus_times a b = solve whole whole_ring (at (pos 0) (a ∷ b ∷ [])) (exps.neg
 pub multiple_minus : (n : ℕ) (x : ℤ) → IsMultiple n x → IsMultiple n (neg_ℤ x)
 multiple_minus n x h = record { quotient = neg_ℤ h.quotient; is = ap neg_ℤ h.is ∙ minus_times (pos n) h.quotient }
 
--- x is a multiple of 144 where its remainder is 0
-pub rem-multiple : (x : ℤ) → int_rem_euclid x (pos 144) ≡ pos 0 → IsMultiple 144 x
-rem-multiple (pos a) e = record { quotient = pos (a / 144); is = omega (arith, ints, e) }
-rem-multiple (negsuc a) e = record { quotient = negsuc (a / 144); is = omega (arith, ints, e) }
+-- n times the quotient and the greatest remainder
+whole_negative : (a n q r : ℕ) → n * q + r ≡ a → r < n → n - 1 - r ≡ 0 → suc a ≡ n * suc q
+whole_negative a n q r e l f = let g : n * suc q ≡ n * q + n = mul-suc n q in omega (arith, e, l, f, g)
 
-pub multiple-rem : (x : ℤ) → IsMultiple 144 x → int_rem_euclid x (pos 144) ≡ pos 0
-multiple-rem x h = by_quotient x h.quotient h.is where
-  by_quotient : (x q : ℤ) → x ≡ pos 144 *ℤ q → int_rem_euclid x (pos 144) ≡ pos 0
-  by_quotient (pos a) (pos q) e = omega (arith, ints, e)
-  by_quotient (pos a) (negsuc q) e = absurd (omega (arith, ints, e))
-  by_quotient (negsuc a) (pos q) e = absurd (omega (arith, ints, e))
-  by_quotient (negsuc a) (negsuc q) e = omega (arith, ints, e)
+-- x is a multiple of n where its remainder is 0
+pub rem-multiple : (n : ℕ) → 0 < n → (x : ℤ) → int_rem_euclid x (pos n) ≡ pos 0 → IsMultiple n x
+rem-multiple n some (pos a) e =
+    let f : a % n ≡ 0 = ap unsigned_abs e in
+    let g : n * (a / n) + a % n ≡ a = div-add-mod a n in
+    record { quotient = pos (a / n); is = ap pos (omega (arith, f, g)) ∙ sym (pos-*ℤ-pos n (a / n)) }
+rem-multiple n some (negsuc a) e =
+    let f : n - 1 - a % n ≡ 0 = ap unsigned_abs e in
+    record {
+      quotient = negsuc (a / n);
+      is = ap (λ m. neg_ℤ (pos m)) (whole_negative a n (a / n) (a % n) (div-add-mod a n) (mod-lt a {m = n} some) f) ∙ sym (pos-*ℤ-negsuc n (a / n));
+    }
 
--- the same of 6
-pub rem-multiple_of_six : (x : ℤ) → int_rem_euclid x (pos 6) ≡ pos 0 → IsMultiple 6 x
-rem-multiple_of_six (pos a) e = record { quotient = pos (a / 6); is = omega (arith, ints, e) }
-rem-multiple_of_six (negsuc a) e = record { quotient = negsuc (a / 6); is = omega (arith, ints, e) }
+pub multiple-rem : (n : ℕ) → 0 < n → (x : ℤ) → IsMultiple n x → int_rem_euclid x (pos n) ≡ pos 0
+multiple-rem n some x h = ap (λ y. int_rem_euclid y (pos n)) h.is ∙ by_quotient h.quotient where
+  no_more : (m : ℕ) (x : ℤ) → x ≡ pos m → x +ℤ pos (0 * n) ≡ pos m
+  no_more m x e = let z : 0 * n ≡ 0 = zero-mul n in (λ i. e i +ℤ pos (z i)) ∙ ap pos (omega arith)
 
-pub multiple_of_six-rem : (x : ℤ) → IsMultiple 6 x → int_rem_euclid x (pos 6) ≡ pos 0
-multiple_of_six-rem x h = by_quotient x h.quotient h.is where
-  by_quotient : (x q : ℤ) → x ≡ pos 6 *ℤ q → int_rem_euclid x (pos 6) ≡ pos 0
-  by_quotient (pos a) (pos q) e = omega (arith, ints, e)
-  by_quotient (pos a) (negsuc q) e = absurd (omega (arith, ints, e))
-  by_quotient (negsuc a) (pos q) e = absurd (omega (arith, ints, e))
-  by_quotient (negsuc a) (negsuc q) e = omega (arith, ints, e)
+  cancelled : (m k : ℕ) (x : ℤ) → x ≡ neg_ℤ (pos m) → m ≡ k → x +ℤ pos k ≡ pos 0
+  cancelled m k x e f = omega (arith, ints, e, f)
 
--- the same of 12
-pub rem-dozens : (x : ℤ) → int_rem_euclid x (pos 12) ≡ pos 0 → IsMultiple 12 x
-rem-dozens (pos a) e = record { quotient = pos (a / 12); is = omega (arith, ints, e) }
-rem-dozens (negsuc a) e = record { quotient = negsuc (a / 12); is = omega (arith, ints, e) }
-
-pub dozens-rem : (x : ℤ) → IsMultiple 12 x → int_rem_euclid x (pos 12) ≡ pos 0
-dozens-rem x h = by_quotient x h.quotient h.is where
-  by_quotient : (x q : ℤ) → x ≡ pos 12 *ℤ q → int_rem_euclid x (pos 12) ≡ pos 0
-  by_quotient (pos a) (pos q) e = omega (arith, ints, e)
-  by_quotient (pos a) (negsuc q) e = absurd (omega (arith, ints, e))
-  by_quotient (negsuc a) (pos q) e = absurd (omega (arith, ints, e))
-  by_quotient (negsuc a) (negsuc q) e = omega (arith, ints, e)
+  by_quotient : (q : ℤ) → int_rem_euclid (pos n *ℤ q) (pos n) ≡ pos 0
+  by_quotient (pos q) = int_rem_euclid_is (pos n *ℤ pos q) (pos n) n 0 (n * q) some refl (no_more (n * q) (pos n *ℤ pos q) (pos-*ℤ-pos n q)) ∙ ap pos (mul-mod_right n q)
+  by_quotient (negsuc q) =
+      int_rem_euclid_is (pos n *ℤ negsuc q) (pos n) n (suc q) 0 some refl (cancelled (n * suc q) (suc q * n) (pos n *ℤ negsuc q) (pos-*ℤ-negsuc n q) (mul_comm n (suc q))) ∙ ap pos (zero-mod n)

@@ -5,17 +5,12 @@
 -- phase_of-unique: no other number below 24 is
 -- phase_of-sum: the phase of a sum is the sum of the phases modulo 24
 -- phase_of-equal: equal where k.t differs by a whole number
-use Rattle.std.proofs.Common.{◌≡◌, refl, sym, ap, ◌∙◌, subst, ℕ, zero, suc, ◌<◌, ◌+◌, ◌*◌, ◌%◌, ◌/◌, ℤ, pos, negsuc, ◌+ℤ◌, ◌*ℤ◌, neg_ℤ, unsigned_abs, arith}
+use Rattle.std.proofs.Common.{◌≡◌, ℕ, zero, suc, ◌<◌, ◌+◌, ◌*◌, ◌%◌, ◌/◌, ℤ, pos, negsuc, ◌+ℤ◌, ◌*ℤ◌, neg_ℤ, arith}
 use Rattle.std.proofs.lemmas.Int.{ints}
-use Rattle.std.specs.Int.{int_rem_euclid}
 use Rattle.space_ops.specs.Whole.{whole}
 use Rattle.space_ops.specs.Matrix.{Vector, vector_sum}
-use Rattle.kstar.specs.WaveVector.{IsMultiple, row_value, HasPhase, phase_of}
+use Rattle.kstar.specs.WaveVector.{IsMultiple, row_value, HasPhase, turn_of, phase_of}
 use Rattle.kstar.specs.WaveVectorLaws.{row_value-sum}
-
--- the phase of a value of k.t in twelfths
-abbrev pub turn_of : ℤ → ℕ
-turn_of x = unsigned_abs (int_rem_euclid (neg_ℤ x) (pos 144)) / 6
 
 turn_below : (x : ℤ) → turn_of x < 24
 turn_below (pos zero) = omega arith

@@ -5,18 +5,23 @@
 -- IsLittle p k r: operation r leaves k equivalent to itself
 -- IsFirstOfArm p k r: no operation before r gives an image of k that is equivalent to that of r
 -- WaveStar: what contracts see of a star
+-- row_in rows i: row i of a list
+-- AreImages p k by rows: the rows are the images of k under the operations with these numbers
 -- IsStarOf p k s: s is the star of k under the group p
+-- HasFirstArm k s: arm 0 is k itself, by operation 0
+-- AreInequivalent lattice s: the arms are pairwise inequivalent
+-- CoverImages p k s: each image of k is equivalent to an arm
 -- IsFirstBad vectors k f, IsFirstBadPhase lattice k f: the first k.c that is no multiple of 1/24, in lowest terms
 use Rattle.std.specs.Prelude.{◌≡◌, ℕ, ◌<◌, ℤ, List, [], length, slice_index_or, slice_index}
 use Rattle.iso_text.specs.declared.numbers.Frac.{Frac}
+use Rattle.iso_text.specs.Fractions.{IsLowest}
 use Rattle.space_ops.specs.declared.lattice.Lattice.{Lattice}
 use Rattle.space_ops.specs.Matrix.{Vector}
-use Rattle.space_ops.specs.Op.{vector_of, IsShiftWithin}
+use Rattle.space_ops.specs.Op.{vector_of}
 use Rattle.space_ops.specs.Lattice.{centrings_of}
 use Rattle.space_ops.specs.Words.{op_at}
 use Rattle.space_ops.specs.Group.{Parent}
 use Rattle.kstar.specs.WaveVector.{row_value, image_of, AreEquivalent, IsInLittleGroup, HasPhase}
-use Rattle.kstar.specs.Fraction.{IsLowest}
 
 -- the numbers below n with the property P, rising
 pub record IsListOf (n : ℕ) (P : ℕ → Type 0) (xs : List ℕ) : Type 0 where
@@ -37,7 +42,7 @@ IsLittle p k r = IsInLittleGroup p.lattice k (op_at p.ops r).rot
 abbrev pub IsFirstOfArm : Parent → Vector ℤ → ℕ → Type 0
 IsFirstOfArm p k r = (s : ℕ) → s < r → AreEquivalent p.lattice (image_at p k s) (image_at p k r) → ⊥
 
--- rows are in twelfths
+-- what contracts see of a star; rows are in twelfths
 pub record WaveStar : Type 0 where
   pub lattice : Lattice
   pub row : Vector ℤ
@@ -49,20 +54,12 @@ pub record WaveStar : Type 0 where
 abbrev pub row_in : List (List ℤ) → ℕ → Vector ℤ
 row_in rows i = vector_of (slice_index_or rows i [])
 
--- each entry is at most 10,368 in absolute value
-abbrev pub AreNear : List (List ℤ) → Type 0
-AreNear rows = (i : ℕ) → i < length rows → IsShiftWithin 10368 (slice_index_or rows i [])
-
--- the rows are the images of k under the first n operations
-pub record AreAllImages (p : Parent) (k : Vector ℤ) (n : ℕ) (rows : List (List ℤ)) : Type 0 where
-  pub count : length rows ≡ n
-  pub image : (i : ℕ) → i < n → row_in rows i ≡ image_at p k i
-
 -- the rows are the images of k under the operations with these numbers
 pub record AreImages (p : Parent) (k : Vector ℤ) (by : List ℕ) (rows : List (List ℤ)) : Type 0 where
   pub count : length rows ≡ length by
   pub image : (i : ℕ) → i < length by → row_in rows i ≡ image_at p k (slice_index by i)
 
+-- s is the star of k under the group p
 pub record IsStarOf (p : Parent) (k : Vector ℤ) (s : WaveStar) : Type 0 where
   pub lattice : s.lattice ≡ p.lattice
   pub row : s.row ≡ k
@@ -70,10 +67,19 @@ pub record IsStarOf (p : Parent) (k : Vector ℤ) (s : WaveStar) : Type 0 where
   pub by : IsListOf (length p.ops) (IsFirstOfArm p k) s.by
   pub arms : AreImages p k s.by s.arms
 
--- the first n of the numbers, as rows of a list
-pub record AreRowsAt (rows : List (List ℤ)) (numbers : List ℕ) (n : ℕ) (chosen : List (List ℤ)) : Type 0 where
-  pub count : length chosen ≡ n
-  pub row : (i : ℕ) → i < n → slice_index_or chosen i [] ≡ slice_index_or rows (slice_index numbers i) []
+-- arm 0 is k itself, by operation 0
+pub record HasFirstArm (k : Vector ℤ) (s : WaveStar) : Type 0 where
+  pub some : 0 < length s.by
+  pub by : slice_index s.by 0 ≡ 0
+  pub row : row_in s.arms 0 ≡ k
+
+-- the arms are pairwise inequivalent
+abbrev pub AreInequivalent : Lattice → WaveStar → Type 0
+AreInequivalent lattice s = (i j : ℕ) → i < length s.by → j < length s.by → AreEquivalent lattice (row_in s.arms i) (row_in s.arms j) → i ≡ j
+
+-- each image of k is equivalent to an arm
+abbrev pub CoverImages : Parent → Vector ℤ → WaveStar → Type 0
+CoverImages p k s = (r : ℕ) → r < length p.ops → (i : ℕ) × (i < length s.by) × AreEquivalent p.lattice (row_in s.arms i) (image_at p k r)
 
 -- the first vector of a list with k.c no multiple of 1/24, and this k.c in lowest terms
 pub record IsFirstBad (vectors : List (List ℤ)) (k : Vector ℤ) (f : Frac) : Type 0 where

@@ -1,9 +1,10 @@
 -- What contracts see of a star's fields.
-use Rattle.std.specs.Prelude.{◌≡◌, ℕ, ◌<◌, [], length, slice_index_or}
+use Rattle.std.specs.Prelude.{◌≡◌, length}
 use Rattle.space_ops.specs.Op.{vector_of, IsShiftWithin}
 use Rattle.kstar.specs.declared.star.Star.TheInside.{Inside}
 use Rattle.kstar.specs.WaveVector.{HasPhases}
-use Rattle.kstar.specs.Star.{WaveStar, AreNear}
+use Rattle.kstar.specs.Star.{WaveStar}
+use Rattle.kstar.specs.Rows.{AreNear}
 
 abbrev pub view_of : Inside → WaveStar
 view_of s = record { lattice = s.lattice; row = vector_of s.row; little = s.little.items; by = s.by.items; arms = s.arms.items }

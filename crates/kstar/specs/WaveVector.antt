@@ -8,7 +8,7 @@
 -- IsInLittleGroup lattice k r: the image of k under r is equivalent to k
 -- HasPhase k t: k.t is a multiple of 1/24
 -- HasPhases lattice k: k.t is a multiple of 1/24 for every centring vector t
--- phase_of k t: the power p of z = exp(2 pi i / 24) with z^p = exp(-2 pi i k.t)
+-- turn_of x, phase_of k t: the power p of z = exp(2 pi i / 24) with z^p = exp(-2 pi i k.t), where x is 144 (k.t)
 use Rattle.std.specs.Prelude.{◌≡◌, ℕ, ◌<◌, ◌/◌, ℤ, pos, ◌*ℤ◌, neg_ℤ, length}
 use Rattle.std.specs.Int.{int_rem_euclid}
 use Rattle.std.specs.Int.RustNames.{unsigned_abs}
@@ -60,6 +60,10 @@ HasPhase k t = IsMultiple 6 (row_value k t)
 abbrev pub HasPhases : Lattice → Vector ℤ → Type 0
 HasPhases lattice k = (i : ℕ) → i < length (centrings_of lattice) → HasPhase k (centring_at lattice i)
 
--- exp(-2 pi i k.t) is z to this power: -(k.t) modulo 1, in units of 1/24
+-- -(x / 144) modulo 1, in units of 1/24
+abbrev pub turn_of : ℤ → ℕ
+turn_of x = unsigned_abs (int_rem_euclid (neg_ℤ x) (pos 144)) / 6
+
+-- exp(-2 pi i k.t) is z to this power
 unfoldable pub phase_of : Vector ℤ → Vector ℤ → ℕ
-phase_of k t = unsigned_abs (int_rem_euclid (neg_ℤ (row_value k t)) (pos 144)) / 6
+phase_of k t = turn_of (row_value k t)

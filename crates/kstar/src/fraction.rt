@@ -1,7 +1,7 @@
 // Fractions in lowest terms.
-ghost use Rattle.std.specs.Prelude.{◌≡◌, ℕ, ℤ, pos, ◌*ℤ◌, ◌≤◌, ◌<◌, MatchOption};
+ghost use Rattle.std.specs.Prelude.{◌≡◌, ℕ, ℤ, pos, ◌*ℤ◌, ◌<◌, MatchOption};
 ghost use Rattle.space_ops.specs.Op.{IsWithin};
-ghost use Rattle.kstar.specs.Fraction.{IsLowest};
+ghost use Rattle.iso_text.specs.Fractions.{IsLowest};
 
 use iso_text::Frac;
 

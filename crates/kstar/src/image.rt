@@ -1,12 +1,13 @@
 // Images of a row.
-ghost use Rattle.std.specs.Prelude.{◌≡◌, ℕ, ◌<◌, IfOk, length, slice_index_or, [], ◌∷◌, ◌++◌};
+ghost use Rattle.std.specs.Prelude.{◌≡◌, ℕ, ◌<◌, IfOk, length, slice_index_or, [], ◌∷◌};
 ghost use Rattle.space_ops.specs.Op.{IsWithin, IsShiftWithin, IsSmallMatrix, matrix_of, vector_of, shift_of, number_at, row_at};
 ghost use Rattle.space_ops.specs.Words.{op_at};
 ghost use Rattle.space_ops.specs.Group.{IsParentGroup};
 ghost use Rattle.kstar.specs.WaveVector.{row_product, image_of};
-ghost use Rattle.kstar.specs.Star.{AreAllImages, AreNear};
+ghost use Rattle.kstar.specs.Rows.{AreAllImages, AreNear};
 
 use crate::product::short_value;
+use crate::rows::add;
 use iso_text::NoMemory;
 use space_ops::Group;
 use std::alloc::Global;
@@ -42,20 +43,12 @@ fn image(group: &Group, row: [i32; 3], i: usize) -> [i32; 3]
     times(row, group.op(i).inverse().rot)
 }
 
-fn add(rows: &mut Vec<[i32; 3]>, row: [i32; 3]) -> Result<(), NoMemory>
-    ensures { IfOk result (λ _. rows.new.items ≡ rows.old.items ++ row ∷ []) }
-{
-    match rows.push(row) {
-        Ok(()) => Ok(()),
-        Err(_) => Err(NoMemory),
-    }
-}
-
 /// The images of a row under the operations of the group.
 pub fn images(alloc: Global, group: &Group, row: [i32; 3]) -> Result<Vec<[i32; 3]>, NoMemory>
     requires { IsShiftWithin 288 row }
     ensures value { IfOk result (λ images. AreAllImages group.now (vector_of row) (length group.now.ops) images.items) }
     ensures within { IfOk result (λ images. AreNear images.items) }
+    ensures group { IsParentGroup group.now }
 {
     let mut images: Vec<[i32; 3]> = Vec::new(alloc);
     for i in 0..group.len() {

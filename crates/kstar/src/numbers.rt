@@ -2,9 +2,11 @@
 ghost use Rattle.std.specs.Prelude.{◌≡◌, ℕ, ◌<◌, IfOk, true, false, length, slice_index, slice_index_or, [], ◌∷◌, ◌++◌};
 ghost use Rattle.space_ops.specs.Op.{IsShiftWithin, vector_of};
 ghost use Rattle.kstar.specs.WaveVector.{AreEquivalent};
-ghost use Rattle.kstar.specs.Star.{IsListOf, AreNear, row_in};
+ghost use Rattle.kstar.specs.Star.{IsListOf, row_in};
+ghost use Rattle.kstar.specs.Rows.{AreNear};
 
 use crate::equivalence::are_equivalent;
+use crate::rows::row_at;
 use iso_text::NoMemory;
 use space_ops::Lattice;
 use std::alloc::Global;
@@ -20,14 +22,6 @@ fn add(numbers: &mut Vec<usize>, r: usize, is_listed: bool) -> Result<(), NoMemo
         Ok(()) => Ok(()),
         Err(_) => Err(NoMemory),
     }
-}
-
-/// Row r.
-pub fn row_at(rows: &[[i32; 3]], r: usize) -> [i32; 3]
-    requires { r < length rows.now }
-    ensures { result ≡ slice_index_or rows.now r [] }
-{
-    rows[r]
 }
 
 /// The numbers of the images that are equivalent to the row.

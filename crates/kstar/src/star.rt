@@ -1,13 +1,15 @@
 // The star of a wave vector.
-ghost use Rattle.std.specs.Prelude.{◌≡◌, ℕ, ◌<◌, ◌*◌, IfOk, length, slice_index, slice_index_or, [], ◌∷◌, ◌++◌};
+ghost use Rattle.std.specs.Prelude.{◌≡◌, ℕ, ◌<◌, ◌*◌, IfOk, length};
 ghost use Rattle.space_ops.specs.Op.{IsShiftWithin, vector_of};
-ghost use Rattle.kstar.specs.Fraction.{IsWaveVector, row_of, IsLowestRow};
-ghost use Rattle.kstar.specs.Star.{AreNear, AreRowsAt, IsFirstBadPhase, row_in};
-ghost use Rattle.kstar.specs.StarView.{IsStar};
+ghost use Rattle.space_ops.specs.Group.{IsParentGroup};
+ghost use Rattle.kstar.specs.WaveVector.{HasPhases};
+ghost use Rattle.kstar.specs.Star.{IsStarOf};
+ghost use Rattle.kstar.specs.Rows.{AreNear, IsStarOfRows};
 
 use crate::image::images;
-use crate::numbers::{firsts_of, little_of, row_at};
+use crate::numbers::{firsts_of, little_of};
 use crate::phase::{bad_phase, phase};
+use crate::rows::rows_at;
 use crate::wave_vector::{KVector, row, wave_vector};
 use iso_text::{Frac, NoMemory};
 use space_ops::{Group, Lattice};
@@ -56,34 +58,63 @@ impl Model for Star {
     ghost invariant = { IsStar };
 }
 
-fn add(rows: &mut Vec<[i32; 3]>, row: [i32; 3]) -> Result<(), NoMemory>
-    ensures { IfOk result (λ _. rows.new.items ≡ rows.old.items ++ row ∷ []) }
+fn star_of_rows(
+    alloc: Global,
+    images: &[[i32; 3]],
+    row: [i32; 3],
+    lattice: Lattice,
+) -> Result<Star, NoMemory>
+    requires images { AreNear images.now }
+    requires row { IsShiftWithin 288 row }
+    requires phases { HasPhases lattice (vector_of row) }
+    ensures { IfOk result (λ star. IsStarOfRows images.now lattice (vector_of row) star) }
 {
-    match rows.push(row) {
-        Ok(()) => Ok(()),
-        Err(_) => Err(NoMemory),
-    }
+    let little = match little_of(alloc, images, row, lattice) {
+        Ok(little) => little,
+        Err(_) => return Err(NoMemory),
+    };
+    let by = match firsts_of(alloc, images, lattice) {
+        Ok(by) => by,
+        Err(_) => return Err(NoMemory),
+    };
+    let arms = match rows_at(alloc, images, &by) {
+        Ok(arms) => arms,
+        Err(_) => return Err(NoMemory),
+    };
+    Ok(Star {
+        lattice,
+        row,
+        little,
+        by,
+        arms,
+    })
 }
 
-/// The rows with these numbers.
-fn rows_at(alloc: Global, rows: &[[i32; 3]], numbers: &[usize]) -> Result<Vec<[i32; 3]>, NoMemory>
-    requires { (i : ℕ) → i < length numbers.now → slice_index numbers.now i < length rows.now }
-    ensures { IfOk result (λ chosen. AreRowsAt rows.now numbers.now (length numbers.now) chosen.items) }
+/// The star of a row.
+fn star_of(alloc: Global, group: &Group, row: [i32; 3]) -> Result<Star, NoMemory>
+    requires row { IsShiftWithin 288 row }
+    requires phases { HasPhases group.now.lattice (vector_of row) }
+    ensures star { IfOk result (λ star. IsStarOf group.now (vector_of row) star) }
+    ensures group { IsParentGroup group.now }
 {
-    let mut chosen: Vec<[i32; 3]> = Vec::new(alloc);
-    for number in numbers {
-        add(&mut chosen, row_at(rows, *number))?;
-    }
-    Ok(chosen)
+    let images = match images(alloc, group, row) {
+        Ok(images) => images,
+        Err(_) => return Err(NoMemory),
+    };
+    star_of_rows(alloc, &images, row, group.lattice())
 }
 
 impl Star {
-    ghost use Rattle.std.specs.Prelude.{◌≡◌, ℕ, ◌<◌, ◌*◌, IfOk, length, slice_index, Err};
+    ghost use Rattle.std.specs.Prelude.{◌≡◌, ℕ, ◌<◌, ◌+◌, ◌*◌, ◌%◌, ℤ, pos, ◌+ℤ◌, IfOk, length, slice_index, Err};
+    ghost use Rattle.space_ops.specs.Whole.{whole};
+    ghost use Rattle.space_ops.specs.Matrix.{Vector, vector_sum};
+    ghost use Rattle.space_ops.specs.GroupLaws.{rotation_group};
     ghost use Rattle.space_ops.specs.Op.{vector_of};
     ghost use Rattle.space_ops.specs.Words.{IsLatticeVector};
     ghost use Rattle.kstar.specs.Fraction.{IsWaveVector, row_of, IsLowestRow};
-    ghost use Rattle.kstar.specs.WaveVector.{HasPhases, phase_of};
-    ghost use Rattle.kstar.specs.Star.{IsStarOf, IsFirstBadPhase, row_in};
+    ghost use Rattle.kstar.specs.WaveVector.{IsMultiple, row_value, HasPhases, phase_of};
+    ghost use Rattle.kstar.specs.Star.{IsStarOf, IsFirstBadPhase, HasFirstArm, AreInequivalent, CoverImages, row_in};
+    ghost use Rattle.kstar.specs.Subgroup.{IsSubgroup};
 
     /// The star of k under the group. Condition: each part of k has a denominator that divides 12,
     /// and a numerator of at most 24 in absolute value.
@@ -92,35 +123,21 @@ impl Star {
         ensures star { IfOk result (λ star. IsStarOf group.now (row_of k) star) }
         ensures phases { IfOk result (λ star. HasPhases group.now.lattice (row_of k)) }
         ensures bad { (f : Frac) → result ≡ Err (StarError.BadPhase f) → IsFirstBadPhase group.now.lattice (row_of k) f }
+        ensures memory { result ≡ Err StarError.NoMemory → HasPhases group.now.lattice (row_of k) }
+        ensures first { IfOk result (λ star. HasFirstArm (row_of k) star) }
+        ensures apart { IfOk result (λ star. AreInequivalent group.now.lattice star) }
+        ensures cover { IfOk result (λ star. CoverImages group.now (row_of k) star) }
+        ensures orders { IfOk result (λ star. length star.by * length star.little ≡ length group.now.ops) }
+        ensures subgroup { IfOk result (λ star. IsSubgroup (rotation_group group.now.ops) star.little) }
     {
         let row = row(k);
-        let lattice = group.lattice();
-        if let Some(phase) = bad_phase(row, lattice) {
+        if let Some(phase) = bad_phase(row, group.lattice()) {
             return Err(StarError::BadPhase(phase));
         }
-        let images = match images(alloc, group, row) {
-            Ok(images) => images,
-            Err(_) => return Err(StarError::NoMemory),
-        };
-        let little = match little_of(alloc, &images, row, lattice) {
-            Ok(little) => little,
-            Err(_) => return Err(StarError::NoMemory),
-        };
-        let by = match firsts_of(alloc, &images, lattice) {
-            Ok(by) => by,
-            Err(_) => return Err(StarError::NoMemory),
-        };
-        let arms = match rows_at(alloc, &images, &by) {
-            Ok(arms) => arms,
-            Err(_) => return Err(StarError::NoMemory),
-        };
-        Ok(Star {
-            lattice,
-            row,
-            little,
-            by,
-            arms,
-        })
+        match star_of(alloc, group, row) {
+            Ok(star) => Ok(star),
+            Err(_) => Err(StarError::NoMemory),
+        }
     }
 
     /// The numbers of the rotations of the little group, rising.
@@ -156,7 +173,10 @@ impl Star {
     /// The power of z = exp(2 pi i / 24) that is exp(-2 pi i k.t), for a lattice vector t in twelfths.
     pub fn power(&self, t: [i32; 3]) -> u8
         requires { IsLatticeVector self.now.lattice (vector_of t) }
-        ensures { result ≡ phase_of self.now.row (vector_of t) }
+        ensures value { result ≡ phase_of self.now.row (vector_of t) }
+        ensures below { result < 24 }
+        ensures turn { IsMultiple 144 (pos (6 * result) +ℤ row_value self.now.row (vector_of t)) }
+        ensures sum { (s : Vector ℤ) → IsLatticeVector self.now.lattice s → phase_of self.now.row (vector_sum whole (vector_of t) s) ≡ (result + phase_of self.now.row s) % 24 }
     {
         phase(self.row, t)
     }

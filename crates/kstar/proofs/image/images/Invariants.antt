@@ -1,4 +1,4 @@
-use Rattle.kstar.specs.Star.{AreAllImages, AreNear}
+use Rattle.kstar.specs.Rows.{AreAllImages, AreNear}
 use Rattle.space_ops.specs.Op.{vector_of}
 use Rattle.kstar.proofs.image.images.Given as goal
 

@@ -1,4 +1,4 @@
-use Rattle.std.proofs.Common.{◌≡◌, ◌∙◌, ap, refl, ℤ, List, [], ◌∷◌, rules, w32}
+use Rattle.std.proofs.Common.{◌≡◌, ◌∙◌, ap, ℤ, List, [], ◌∷◌, rules, w32}
 use Rattle.std.proofs.lemmas.Int.{to_z-of_z}
 use Rattle.space_ops.specs.Op.{number_at, row_at, vector_of}
 use Rattle.kstar.specs.WaveVector.{row_value}

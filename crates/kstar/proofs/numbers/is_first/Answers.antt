@@ -1,4 +1,4 @@
-use Rattle.std.proofs.Common.{subst, sym, ℤ, List, [], get_or, below_more}
+use Rattle.std.proofs.Common.{subst, sym, ℤ, List, below_more}
 use Rattle.space_ops.specs.Op.{vector_of}
 use Rattle.kstar.specs.WaveVector.{AreEquivalent}
 use Rattle.kstar.specs.Star.{row_in}

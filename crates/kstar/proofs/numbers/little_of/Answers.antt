@@ -1,4 +1,4 @@
-use Rattle.std.proofs.Common.{subst, sym, ℕ, ℤ, List}
+use Rattle.std.proofs.Common.{subst, sym, ℤ, List}
 use Rattle.space_ops.specs.Op.{vector_of}
 use Rattle.kstar.specs.WaveVector.{AreEquivalent}
 use Rattle.kstar.specs.Star.{row_in}

@@ -1,4 +1,4 @@
-use Rattle.std.proofs.Common.{rules, subst, sym, ℤ, List, [], below_more, w32, arith}
+use Rattle.std.proofs.Common.{rules, subst, ℤ, List, [], below_more, w32, arith}
 use Rattle.std.proofs.lemmas.List.{get_or_default}
 use Rattle.space_ops.specs.Op.{vector_of, IsWithin}
 use Rattle.kstar.specs.WaveVector.{IsMultiple, HasPhase}

@@ -1,7 +1,6 @@
 use Rattle.std.proofs.Common.{rules, ap, ◌∙◌, w64}
 use Rattle.std.proofs.lemmas.Int.{to_z-of_z}
-use Rattle.kstar.specs.WaveVector.{phase_of}
-use Rattle.kstar.specs.PhaseLaws.{turn_of}
+use Rattle.kstar.specs.WaveVector.{turn_of, phase_of}
 use Rattle.kstar.proofs.phase.phase.Goals as goal
 
 pub returns : goal.returns

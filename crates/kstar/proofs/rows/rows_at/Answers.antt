@@ -1,5 +1,5 @@
 use Rattle.kstar.proofs.Appends.{rows-more}
-use Rattle.kstar.proofs.star.rows_at.Goals as goal
+use Rattle.kstar.proofs.rows.rows_at.Goals as goal
 
 pub loop-number-preserved : goal.loop-number-preserved
 loop-number-preserved c =
