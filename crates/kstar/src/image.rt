@@ -40,7 +40,9 @@ fn image(group: &Group, row: [i32; 3], i: usize) -> [i32; 3]
     ensures value { vector_of result ≡ image_of (vector_of row) (op_at group.now.ops i).rot }
     ensures within { IsShiftWithin 10368 result }
 {
-    times(row, group.op(i).inverse().rot)
+    let op = group.op(i);
+    let inverse = op.inverse();
+    times(row, inverse.rot)
 }
 
 /// The images of a row under the operations of the group.

@@ -1,5 +1,5 @@
 // Wave vectors as rows of twelfths.
-ghost use Rattle.std.specs.Prelude.{◌≡◌, ◌/◌, ◌<◌, pos, ◌*ℤ◌};
+ghost use Rattle.std.specs.Prelude.{◌≡◌, ◌/◌, ◌<◌, pos, ◌*ℤ◌, true, false};
 ghost use Rattle.space_ops.specs.Op.{IsWithin, shift_of, vector_of, IsShiftWithin};
 ghost use Rattle.kstar.specs.Fraction.{IsTwelfths, twelfths_of, IsWaveVector, row_of, IsLowestRow};
 
@@ -10,6 +10,27 @@ use iso_text::Frac;
 #[derive(Clone, Copy, Debug, PartialEq, Eq)]
 pub struct KVector {
     pub parts: [Frac; 3],
+}
+
+fn is_twelfths(part: Frac) -> bool
+    ensures yes { result ≡ true → IsTwelfths part }
+    ensures no { result ≡ false → IsTwelfths part → ⊥ }
+{
+    part.den > 0 && 12 % part.den == 0 && -24 <= part.num && part.num <= 24
+}
+
+impl KVector {
+    ghost use Rattle.std.specs.Prelude.{◌≡◌, true, false};
+    ghost use Rattle.kstar.specs.Fraction.{IsWaveVector};
+
+    /// Whether each part has a denominator that divides 12, and a numerator of at most 24 in
+    /// absolute value.
+    pub fn is_wave_vector(self) -> bool
+        ensures yes { result ≡ true → IsWaveVector self }
+        ensures no { result ≡ false → IsWaveVector self → ⊥ }
+    {
+        is_twelfths(self.parts[0]) && is_twelfths(self.parts[1]) && is_twelfths(self.parts[2])
+    }
 }
 
 /// Twelfths in a unit fraction.

@@ -6,21 +6,21 @@ use Rattle.kstar.specs.LittleLaws.{unimodular-at}
 use Rattle.kstar.proofs.Columns.{op_near, inverse_rotation, inverse_small}
 use Rattle.kstar.proofs.image.image.Goals as goal
 
-pub inverse-requires-clause-small : goal.inverse-requires-clause-small
-inverse-requires-clause-small c = subst (λ (o : Op). IsSmallMatrix (seitz_of o).rot) (sym c.op.ensures) (c.requires.group.small c.args.i c.requires.place)
+pub inverse-inverse-requires-clause-small : goal.inverse-inverse-requires-clause-small
+inverse-inverse-requires-clause-small c = subst (λ (o : Op). IsSmallMatrix (seitz_of o).rot) (sym c.op-op.ensures) (c.requires.group.small c.args.i c.requires.place)
 
-pub inverse-requires-clause-shift : goal.inverse-requires-clause-shift
-inverse-requires-clause-shift c = subst (λ (o : Op). IsShiftWithin 1000000 o.shift) (sym c.op.ensures) (op_near (get_or c.args.group.now.ops c.args.i identity_op) (c.requires.group.list.in_cell c.args.i c.requires.place))
+pub inverse-inverse-requires-clause-shift : goal.inverse-inverse-requires-clause-shift
+inverse-inverse-requires-clause-shift c = subst (λ (o : Op). IsShiftWithin 1000000 o.shift) (sym c.op-op.ensures) (op_near (get_or c.args.group.now.ops c.args.i identity_op) (c.requires.group.list.in_cell c.args.i c.requires.place))
 
-pub inverse-requires-clause-unimodular : goal.inverse-requires-clause-unimodular
-inverse-requires-clause-unimodular c =
-    subst (λ (o : Op). IsUnimodular (seitz_of o).rot) (sym c.op.ensures) (unimodular-at c.args.group.now c.requires.group c.args.i c.requires.place)
+pub inverse-inverse-requires-clause-unimodular : goal.inverse-inverse-requires-clause-unimodular
+inverse-inverse-requires-clause-unimodular c =
+    subst (λ (o : Op). IsUnimodular (seitz_of o).rot) (sym c.op-op.ensures) (unimodular-at c.args.group.now c.requires.group c.args.i c.requires.place)
 
 pub times-requires-clause-rotation : goal.times-requires-clause-rotation
 times-requires-clause-rotation c =
-    subst IsSmallMatrix (sym (inverse_rotation c.op.result c.inverse.result _ c.inverse.ensures.inverse c.op.ensures))
+    subst IsSmallMatrix (sym (inverse_rotation c.op-op.result c.inverse-inverse.result _ c.inverse-inverse.ensures.inverse c.op-op.ensures))
     (inverse_small c.args.group.now c.requires.group c.args.i c.requires.place)
 
 pub returns-clause-value : goal.returns-clause-value
 returns-clause-value c =
-    ap vector_of c.times.ensures.value ∙ ap (row_product (vector_of c.args.row)) (inverse_rotation c.op.result c.inverse.result _ c.inverse.ensures.inverse c.op.ensures)
+    ap vector_of c.times.ensures.value ∙ ap (row_product (vector_of c.args.row)) (inverse_rotation c.op-op.result c.inverse-inverse.result _ c.inverse-inverse.ensures.inverse c.op-op.ensures)
