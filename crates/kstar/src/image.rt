@@ -1,6 +1,8 @@
 // Images of a row.
 ghost use Rattle.std.specs.Prelude.{◌≡◌, ℕ, ◌<◌, IfOk, length, slice_index_or, [], ◌∷◌};
 ghost use Rattle.space_ops.specs.Op.{IsWithin, IsShiftWithin, IsSmallMatrix, matrix_of, vector_of, shift_of, number_at, row_at};
+ghost use Rattle.space_ops.specs.Whole.{whole};
+ghost use Rattle.space_ops.specs.Seitz.{inverse_matrix};
 ghost use Rattle.space_ops.specs.Words.{op_at};
 ghost use Rattle.space_ops.specs.Group.{IsParentGroup};
 ghost use Rattle.kstar.specs.WaveVector.{row_product, image_of};
@@ -12,10 +14,16 @@ use iso_text::NoMemory;
 use space_ops::Group;
 use std::alloc::Global;
 
-fn column(x: i8, y: i8, z: i8) -> [i32; 3]
-    ensures { result ≡ x ∷ y ∷ z ∷ [] }
+/// Column j of a rotation.
+fn column(rot: [[i8; 3]; 3], j: usize) -> [i32; 3]
+    requires { j < 3 }
+    ensures { result ≡ number_at (row_at rot 0) j ∷ number_at (row_at rot 1) j ∷ number_at (row_at rot 2) j ∷ [] }
 {
-    [i32::from(x), i32::from(y), i32::from(z)]
+    [
+        i32::from(rot[0][j]),
+        i32::from(rot[1][j]),
+        i32::from(rot[2][j]),
+    ]
 }
 
 /// A row times a rotation.
@@ -26,10 +34,20 @@ fn times(row: [i32; 3], rot: [[i8; 3]; 3]) -> [i32; 3]
     ensures within { IsShiftWithin 10368 result }
 {
     [
-        short_value(row, column(rot[0][0], rot[1][0], rot[2][0])),
-        short_value(row, column(rot[0][1], rot[1][1], rot[2][1])),
-        short_value(row, column(rot[0][2], rot[1][2], rot[2][2])),
+        short_value(row, column(rot, 0)),
+        short_value(row, column(rot, 1)),
+        short_value(row, column(rot, 2)),
     ]
+}
+
+/// R^-1 for operation i of the group.
+fn inverse_rotation(group: &Group, i: usize) -> [[i8; 3]; 3]
+    requires group { IsParentGroup group.now }
+    requires place { i < length group.now.ops }
+    ensures value { matrix_of result ≡ inverse_matrix whole (op_at group.now.ops i).rot }
+    ensures small { IsSmallMatrix (matrix_of result) }
+{
+    group.op(i).inverse().rot
 }
 
 /// The image k R^-1 under operation i of the group.
@@ -40,9 +58,7 @@ fn image(group: &Group, row: [i32; 3], i: usize) -> [i32; 3]
     ensures value { vector_of result ≡ image_of (vector_of row) (op_at group.now.ops i).rot }
     ensures within { IsShiftWithin 10368 result }
 {
-    let op = group.op(i);
-    let inverse = op.inverse();
-    times(row, inverse.rot)
+    times(row, inverse_rotation(group, i))
 }
 
 /// The images of a row under the operations of the group.

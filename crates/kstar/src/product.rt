@@ -1,6 +1,6 @@
 // Rows times columns.
 ghost use Rattle.std.specs.Prelude.{◌≡◌, ◌+ℤ◌, ◌*ℤ◌, neg_ℤ};
-ghost use Rattle.space_ops.specs.Op.{IsWithin, IsShiftWithin, vector_of, number_at, shift_of};
+ghost use Rattle.space_ops.specs.Op.{IsWithin, IsShiftWithin, vector_of};
 ghost use Rattle.space_ops.specs.Words.{vector_difference};
 ghost use Rattle.kstar.specs.WaveVector.{row_value};
 
@@ -77,7 +77,7 @@ fn minus(a: i32, b: i32) -> i32
 pub fn difference(a: [i32; 3], b: [i32; 3]) -> [i32; 3]
     requires left { IsShiftWithin 12000 a }
     requires right { IsShiftWithin 12000 b }
-    ensures value { result ≡ shift_of (vector_difference (vector_of a) (vector_of b)) }
+    ensures value { vector_of result ≡ vector_difference (vector_of a) (vector_of b) }
     ensures within { IsShiftWithin 24000 result }
 {
     [minus(a[0], b[0]), minus(a[1], b[1]), minus(a[2], b[2])]
