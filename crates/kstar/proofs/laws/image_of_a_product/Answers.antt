@@ -1,0 +1,5 @@
+use Rattle.kstar.specs.LittleLaws.{image_at-product}
+use Rattle.kstar.proofs.laws.image_of_a_product.Goals as goal
+
+pub returns : goal.returns
+returns c = image_at-product

@@ -1,0 +1,15 @@
+pub mod WaveVector
+pub mod Multiples
+pub mod RowExpressions
+pub mod WaveVectorLaws
+pub mod Fraction
+pub mod Star
+pub mod Rows
+pub mod PhaseLaws
+pub mod LittleLaws
+pub mod DecisionLaws
+pub mod ArmLaws
+pub mod OrderLaws
+pub mod Subgroup
+pub mod StarLaws
+pub mod StarView

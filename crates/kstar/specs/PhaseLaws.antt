@@ -1,0 +1,77 @@
+-- Laws of phases.
+--
+-- phase_of-below: a phase is below 24
+-- phase_of-is: 6 times the phase and k.t in twelfths are together a multiple of 144
+-- phase_of-unique: no other number below 24 is
+-- phase_of-sum: the phase of a sum is the sum of the phases modulo 24
+-- phase_of-equal: equal where k.t differs by a whole number
+use Rattle.std.proofs.Common.{◌≡◌, ℕ, zero, suc, ◌<◌, ◌+◌, ◌*◌, ◌%◌, ◌/◌, ℤ, pos, negsuc, ◌+ℤ◌, ◌*ℤ◌, neg_ℤ, arith}
+use Rattle.std.proofs.lemmas.Int.{ints}
+use Rattle.space_ops.specs.Whole.{whole}
+use Rattle.space_ops.specs.Matrix.{Vector, vector_sum}
+use Rattle.kstar.specs.WaveVector.{IsMultiple, row_value, HasPhase, turn_of, phase_of}
+use Rattle.kstar.specs.WaveVectorLaws.{row_value-sum}
+
+turn_below : (x : ℤ) → turn_of x < 24
+turn_below (pos zero) = omega arith
+turn_below (pos (suc n)) = omega arith
+turn_below (negsuc n) = omega arith
+
+turn_is : (x q : ℤ) → x ≡ pos 6 *ℤ q → IsMultiple 144 (pos (6 * turn_of x) +ℤ x)
+turn_is (pos zero) q e = record { quotient = pos 0; is = omega (arith, ints) }
+turn_is (pos (suc n)) (pos q) e = record { quotient = pos (n / 144 + 1); is = omega (arith, ints, e) }
+turn_is (pos (suc n)) (negsuc q) e = absurd (omega (arith, ints, e))
+turn_is (negsuc n) (pos q) e = absurd (omega (arith, ints, e))
+turn_is (negsuc n) (negsuc q) e = record { quotient = neg_ℤ (pos (suc n / 144)); is = omega (arith, ints, e) }
+
+pub phase_of-below : (k t : Vector ℤ) → phase_of k t < 24
+unfolding phase_of
+phase_of-below k t = turn_below (row_value k t)
+
+pub phase_of-is : (k t : Vector ℤ) → HasPhase k t → IsMultiple 144 (pos (6 * phase_of k t) +ℤ row_value k t)
+unfolding phase_of
+phase_of-is k t h = turn_is (row_value k t) h.quotient h.is
+
+unique : (p q : ℕ) (x y a b : ℤ) → p < 24 → q < 24 → x ≡ y +ℤ pos 144 *ℤ b → (m n : ℤ) → pos (6 * p) +ℤ x ≡ pos 144 *ℤ m → pos (6 * q) +ℤ y ≡ pos 144 *ℤ n → p ≡ q
+unique p q x y a b l k d m n e f = omega (arith, ints, l, k, d, e, f)
+
+-- one phase below 24
+pub phase_of-unique : (k t : Vector ℤ) (p : ℕ) → HasPhase k t → p < 24 → IsMultiple 144 (pos (6 * p) +ℤ row_value k t) → p ≡ phase_of k t
+phase_of-unique k t p h l m =
+    let x = row_value k t in
+    let n = phase_of-is k t h in
+    unique p (phase_of k t) x x (pos 0) (pos 0) l (phase_of-below k t) (nothing_more x) m.quotient n.quotient m.is n.is
+  where
+    nothing_more : (x : ℤ) → x ≡ x +ℤ pos 144 *ℤ pos 0
+    nothing_more x = omega (arith, ints)
+
+-- equal where k.t differs by a whole number
+pub phase_of-equal : (k l s t : Vector ℤ) → HasPhase k s → HasPhase l t → IsMultiple 144 (row_value k s +ℤ neg_ℤ (row_value l t)) → phase_of k s ≡ phase_of l t
+phase_of-equal k l s t h g d =
+    let m = phase_of-is k s h in
+    let n = phase_of-is l t g in
+    unique (phase_of k s) (phase_of l t) (row_value k s) (row_value l t) (pos 0) d.quotient (phase_of-below k s) (phase_of-below l t)
+    (moved (row_value k s) (row_value l t) d.quotient d.is) m.quotient n.quotient m.is n.is
+  where
+    moved : (x y q : ℤ) → x +ℤ neg_ℤ y ≡ pos 144 *ℤ q → x ≡ y +ℤ pos 144 *ℤ q
+    moved x y q e = omega (arith, ints, e)
+
+summed : (p q r : ℕ) (x y z m n o : ℤ) → r < 24 → z ≡ x +ℤ y → pos (6 * p) +ℤ x ≡ pos 144 *ℤ m → pos (6 * q) +ℤ y ≡ pos 144 *ℤ n → pos (6 * r) +ℤ z ≡ pos 144 *ℤ o
+    → r ≡ (p + q) % 24
+summed p q r x y z m n o l s e f g = omega (arith, ints, l, s, e, f, g)
+
+multiple_of_sum : (x y z a b : ℤ) → z ≡ x +ℤ y → x ≡ pos 6 *ℤ a → y ≡ pos 6 *ℤ b → z ≡ pos 6 *ℤ (a +ℤ b)
+multiple_of_sum x y z a b s e f = omega (arith, ints, s, e, f)
+
+-- additive modulo 24
+pub phase_of-sum : (k s t : Vector ℤ) → HasPhase k s → HasPhase k t → phase_of k (vector_sum whole s t) ≡ (phase_of k s + phase_of k t) % 24
+phase_of-sum k s t h g =
+    let z = row_value k (vector_sum whole s t) in
+    let e = row_value-sum k s t in
+    let both : HasPhase k (vector_sum whole s t) =
+    record { quotient = h.quotient +ℤ g.quotient; is = multiple_of_sum (row_value k s) (row_value k t) z h.quotient g.quotient e h.is g.is } in
+    let m = phase_of-is k s h in
+    let n = phase_of-is k t g in
+    let o = phase_of-is k (vector_sum whole s t) both in
+    summed (phase_of k s) (phase_of k t) (phase_of k (vector_sum whole s t)) (row_value k s) (row_value k t) z m.quotient n.quotient o.quotient
+    (phase_of-below k (vector_sum whole s t)) e m.is n.is o.is
