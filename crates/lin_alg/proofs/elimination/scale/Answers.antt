@@ -2,8 +2,8 @@ use Rattle.std.proofs.Common.{◌≡◌, ◌<◌, ◌≤◌, length, sym, ◌∙
 use Rattle.lin_alg.specs.Reduced.{scaled}
 use Rattle.lin_alg.specs.Rows.{vector}
 use Rattle.cyclo24.specs.FieldLaws.{times-nought}
-use Rattle.lin_alg.proofs.VectorLemmas.{vector-past}
-use Rattle.lin_alg.proofs.WriteLemmas.{IsWritten, written-set, written-kept, written-all}
+use Rattle.lin_alg.proofs.VectorLemmas.{scaled-behind}
+use Rattle.lin_alg.proofs.WriteLemmas.{IsWritten, written-set, written-kept, written-front}
 use Rattle.lin_alg.proofs.elimination.scale.Goals as goal
 use Rattle.lin_alg.proofs.elimination.scale.Goals.{then-not-is_zero+in_ok-row, else-not-is_zero}
 
@@ -34,8 +34,9 @@ returns-clause-exact g c =
     let f = g.F.Field.field in
     let v = g.F.Field.value in
     let start = vector f v c.args.row.now in
-    let l : length c.loop-j.row ≤ c.loop-j.j = omega arith in
-    written-all f v (scaled f.laws c.args.p start) start c.loop-j.row c.loop-j.j l
-    (λ k h. let h' : length c.args.row.now ≤ k = omega arith in
-    ap (f.laws.times (f.laws.inverse (start c.args.p))) (vector-past f v c.args.row.now k h') ∙ times-nought f.laws (f.laws.inverse (start c.args.p)))
+    written-front f v (scaled f.laws c.args.p start) start c.loop-j.row c.loop-j.j
+    (λ k h.
+    let behind : c.args.p < k = omega arith in
+    let z : start k ≡ f.laws.nought = c.requires.last.1 k behind in
+    z ∙ sym (scaled-behind f c.args.p start k z))
     c.loop-j.invariant

@@ -33,4 +33,4 @@ pub returns-clause-exact : goal.returns-clause-exact
 returns-clause-exact g c =
     let f = g.F.Field.field in
     let v = g.F.Field.value in
-    taken-all f v c.args.row.now (v c.args.c) c.args.b.now c.loop-j.row c.loop-j.j c.loop-j-test.false c.requires c.loop-j.auto.row c.loop-j.invariant
+    taken-all f v (vector f v c.args.row.now) (v c.args.c) c.args.b.now c.loop-j.row c.loop-j.j c.loop-j-test.false c.loop-j.invariant
