@@ -10,12 +10,16 @@ ghost use Rattle.lin_alg.specs.declared.echelon.Grew.TheVariants as grew;
 use crate::Grew;
 use cyclo24::{Field, Wide};
 
-// Takes c times b from the row. Behind its end b is 0.
-pub(crate) fn take_multiple<F: Field>(row: &mut [F], c: F, b: &[F]) -> Result<(), Wide>
-    requires { length b.now ≤ length row.old }
-    ensures exact { OnOk result (vector F.field F.value row.new ≡ less F.field.laws (vector F.field F.value row.old) (F.value c) (vector F.field F.value b.now)) }
-    ensures wide { OnErr result (IsWideLess F.field (vector F.field F.value row.old) (F.value c) (vector F.field F.value b.now)) }
+// Takes b from the row as often as the row has it at p. Behind its end b is 0. It stands in the loops
+// over the stored rows, so that no call is made for each of them.
+#[inline(always)]
+fn take_multiple<F: Field>(row: &mut [F], p: usize, b: &[F]) -> Result<(), Wide>
+    requires place { p < length row.old }
+    requires length { length b.now ≤ length row.old }
+    ensures exact { OnOk result (vector F.field F.value row.new ≡ less F.field.laws (vector F.field F.value row.old) (vector F.field F.value row.old p) (vector F.field F.value b.now)) }
+    ensures wide { OnErr result (IsWideLess F.field (vector F.field F.value row.old) (vector F.field F.value row.old p) (vector F.field F.value b.now)) }
 {
+    let c = entry(row, p);
     for j in 0..b.len() {
         if !b[j].is_zero() {
             let product = c.mul(b[j])?;
@@ -34,6 +38,7 @@ pub(crate) fn entry<F: Field>(row: &[F], p: usize) -> F
 }
 
 // Step 1: takes the row to 0 in each pivot column. A stored row is 0 behind its pivot.
+#[inline(never)]
 pub(crate) fn reduce_row<F: Field>(lines: &[(usize, Vec<F>)], row: &mut [F]) -> Result<(), Wide>
     requires shape { HaveWidth (length row.old) (map (λ r. (r.0, r.1.items)) lines.now) }
     requires ended { AreEnded F.field F.value (map (λ r. (r.0, r.1.items)) lines.now) }
@@ -43,7 +48,7 @@ pub(crate) fn reduce_row<F: Field>(lines: &[(usize, Vec<F>)], row: &mut [F]) -> 
     for line in lines {
         let c = entry(row, line.0);
         if !c.is_zero() {
-            take_multiple(row, c, &line.1[..line.0 + 1])?;
+            take_multiple(row, line.0, &line.1[..line.0 + 1])?;
         }
     }
     Ok(())
@@ -91,6 +96,7 @@ fn place_of<F: Field>(lines: &[(usize, Vec<F>)], p: usize) -> usize
 }
 
 // Step 4: the stored rows less the multiples of the row that make them 0 at p. The row is 0 behind p.
+#[inline(never)]
 fn clear_lines<F: Field>(lines: &mut [(usize, Vec<F>)], p: usize, row: &[F]) -> Result<(), Wide>
     requires shape { HaveWidth (length row.now) (map (λ r. (r.0, r.1.items)) lines.old) }
     requires place { p < length row.now }
@@ -104,7 +110,7 @@ fn clear_lines<F: Field>(lines: &mut [(usize, Vec<F>)], p: usize, row: &[F]) -> 
         let line = &mut lines[i];
         let c = entry(&line.1, p);
         if !c.is_zero() {
-            take_multiple(&mut line.1, c, head)?;
+            take_multiple(&mut line.1, p, head)?;
         }
     }
     Ok(())

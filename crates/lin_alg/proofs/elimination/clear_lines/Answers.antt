@@ -61,7 +61,7 @@ returns-in_err-take_multiple-clause-wide g c =
     let es = clearing-at f v c.args.p u (length c.args.row.now) start now c.loop-i.i x e c.loop-i.invariant in
     let front : vector f v (take (c.args.p + 1) c.args.row.now) ≡ u = vector-front f v c.args.p c.args.row.now c.requires.ended in
     let taken : IsWideLess f (vector f v x.1) (vector f v x.1 c.args.p) (vector f v (take (c.args.p + 1) c.args.row.now)) =
-    rw (c.entry-c.ensures, c.deref.ensures.value, c.deref_mut.ensures.value) at c.in_err-take_multiple.ensures.wide in
+    rw c.deref_mut.ensures.value at c.in_err-take_multiple.ensures.wide in
     let h : IsWideLess f (vector f v x.1) (vector f v x.1 c.args.p) u = subst (λ (b : ℕ → _). IsWideLess f (vector f v x.1) (vector f v x.1 c.args.p) b) front taken in
     let zc : f.laws.is_nought (v c.entry-c.result) ≡ false = cc (c.is_zero.ensures, c.if-not-is_zero.true) in
     let z : f.laws.is_nought (vector f v x.1 c.args.p) ≡ false = rw (c.deref.ensures.value) at (sym (ap f.laws.is_nought c.entry-c.ensures) ∙ zc) in
@@ -88,7 +88,7 @@ loop-i-preserved g c =
           let y : ℕ × List _ = (el.0, w.take_multiple.new.row) in
           let n : length w.take_multiple.new.row ≡ w0 = w.take_multiple.auto.row ∙ (rw w.deref_mut.ensures.value k.1) in
           let taken : vector f v y.1 ≡ less f.laws (vector f v x.1) (vector f v x.1 c.args.p) (vector f v (take (c.args.p + 1) c.args.row.now)) =
-          rw (c.entry-c.ensures, c.deref.ensures.value, w.deref_mut.ensures.value) at w.in_ok-take_multiple.ensures.exact in
+          rw w.deref_mut.ensures.value at w.in_ok-take_multiple.ensures.exact in
           let h : vector f v y.1 ≡ less f.laws (vector f v x.1) (vector f v x.1 c.args.p) u =
           taken ∙ ap (less f.laws (vector f v x.1) (vector f v x.1 c.args.p)) (vector-front f v c.args.p c.args.row.now c.requires.ended) in
           let s = clearing-step f v c.args.p u w0 start now c.loop-i.i x y l ll e refl n k.0 h c.loop-i.invariant in

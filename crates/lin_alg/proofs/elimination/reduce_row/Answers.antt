@@ -54,7 +54,7 @@ returns-in_err-take_multiple-clause-wide g c =
     item-at (λ r. (r.0, r.1.items)) c.args.lines.now c.loop-line.line-index c.line-item.result c.loop-line-test.true c.line-item.is in
     let front : vector f v (take (x.0 + 1) x.1) ≡ vector f v x.1 = vector-front f v x.0 x.1 (ended-at f v all c.loop-line.line-index x c.requires.ended l e) in
     let taken : IsWideLess f row (row x.0) (vector f v (take (x.0 + 1) x.1)) =
-    rw (c.entry-c.ensures, c.deref.ensures.value) at c.in_err-take_multiple.ensures.wide in
+    rw c.deref.ensures.value at c.in_err-take_multiple.ensures.wide in
     let h : IsWideLess f row (row x.0) (vector f v x.1) = subst (λ (b : ℕ → _). IsWideLess f row (row x.0) b) front taken in
     let z : f.laws.is_nought (row x.0) ≡ false = cc (c.entry-c.ensures, c.is_zero.ensures, c.if-not-is_zero.true) in
     let w : IsWideReduce f (exact_rows f v all) start = reducing-wide f v all start c.loop-line.line-index row x l e c.loop-line.invariant z h in
@@ -75,7 +75,7 @@ loop-line-preserved g c =
     elim c.if-not-is_zero.branch [
       | then-not-is_zero+in_ok-take_multiple w ↦
           let taken : vector f v w.take_multiple.new.row ≡ less f.laws row (row x.0) (vector f v (take (x.0 + 1) x.1)) =
-          rw (c.entry-c.ensures, w.deref.ensures.value) at w.in_ok-take_multiple.ensures.exact in
+          rw w.deref.ensures.value at w.in_ok-take_multiple.ensures.exact in
           let h : vector f v c.if-not-is_zero.row ≡ less f.laws row (row x.0) (vector f v x.1) =
           ap (vector f v) w.row-is ∙ taken ∙ ap (less f.laws row (row x.0)) front in
           rw h (reducing-step f v all start c.loop-line.line-index row x l e c.loop-line.invariant)
