@@ -75,9 +75,8 @@ fn scale<F: Field>(row: &mut [F], p: usize) -> Result<(), Wide>
 {
     let u = entry(row, p).inv()?;
     for j in 0..p + 1 {
-        let x = entry(row, j);
-        if !x.is_zero() {
-            row[j] = u.mul(x)?;
+        if !row[j].is_zero() {
+            row[j] = u.mul(row[j])?;
         }
     }
     Ok(())
