@@ -1,5 +1,5 @@
 // The written steps of an insertion over the stored rows: pairs of a pivot and the row's entries.
-ghost use Rattle.std.specs.Prelude.{◌≡◌, ◌<◌, ◌≤◌, ◌+◌, ◌++◌, ◌∷◌, ℕ, List, MatchOption, OnOk, OnErr, IfOk, vec_len, vec_capacity, length, map, take, drop, false};
+ghost use Rattle.std.specs.Prelude.{◌≡◌, ◌<◌, ◌≤◌, ◌+◌, ◌++◌, ◌∷◌, ℕ, List, MatchOption, OnOk, OnErr, IfOk, vec_len, vec_capacity, length, map, take, drop};
 ghost use Rattle.std.specs.List.{insert};
 ghost use Rattle.lin_alg.specs.Spans.{less};
 ghost use Rattle.lin_alg.specs.Reduced.{reduce, scaled, cleared, placed};
@@ -10,8 +10,9 @@ ghost use Rattle.lin_alg.specs.declared.echelon.Grew.TheVariants as grew;
 use crate::Grew;
 use cyclo24::{Field, Wide};
 
-// Takes b from the row as often as the row has it at p. Behind its end b is 0. It stands in the loops
-// over the stored rows, so that no call is made for each of them.
+// Takes the multiple of b from the row that the row's entry at p says. Behind its end b is 0. It is
+// compiled into the two loops over the stored rows, which stay functions of their own: so it costs
+// the fewest instructions (`bench/lin_alg.sh`).
 #[inline(always)]
 fn take_multiple<F: Field>(row: &mut [F], p: usize, b: &[F]) -> Result<(), Wide>
     requires place { p < length row.old }
@@ -46,8 +47,7 @@ pub(crate) fn reduce_row<F: Field>(lines: &[(usize, Vec<F>)], row: &mut [F]) -> 
     ensures wide { OnErr result (IsWideReduce F.field (exact_rows F.field F.value (map (λ r. (r.0, r.1.items)) lines.now)) (vector F.field F.value row.old)) }
 {
     for line in lines {
-        let c = entry(row, line.0);
-        if !c.is_zero() {
+        if !entry(row, line.0).is_zero() {
             take_multiple(row, line.0, &line.1[..line.0 + 1])?;
         }
     }
@@ -107,8 +107,7 @@ fn clear_lines<F: Field>(lines: &mut [(usize, Vec<F>)], p: usize, row: &[F]) -> 
     let head = &row[..p + 1];
     for i in 0..lines.len() {
         let line = &mut lines[i];
-        let c = entry(&line.1, p);
-        if !c.is_zero() {
+        if !entry(&line.1, p).is_zero() {
             take_multiple(&mut line.1, p, head)?;
         }
     }

@@ -10,8 +10,8 @@ use Rattle.lin_alg.proofs.ClearLemmas.{seen-set, wide-set, wide_clear-at, cleari
 use Rattle.lin_alg.proofs.elimination.clear_lines.Goals as goal
 use Rattle.lin_alg.proofs.elimination.clear_lines.Goals.{then-not-is_zero+in_ok-take_multiple, else-not-is_zero}
 
-pub entry-c-requires : goal.entry-c-requires
-entry-c-requires g c =
+pub entry-requires : goal.entry-requires
+entry-requires g c =
     let el = get_or c.loop-i.lines c.loop-i.i c.index-lines-i.result in
     let x : ℕ × List _ = (el.0, el.1.items) in
     let now : List (ℕ × List _) = map (λ r. (r.0, r.1.items)) c.loop-i.lines in
@@ -63,8 +63,8 @@ returns-in_err-take_multiple-clause-wide g c =
     let taken : IsWideLess f (vector f v x.1) (vector f v x.1 c.args.p) (vector f v (take (c.args.p + 1) c.args.row.now)) =
     rw c.deref_mut.ensures.value at c.in_err-take_multiple.ensures.wide in
     let h : IsWideLess f (vector f v x.1) (vector f v x.1 c.args.p) u = subst (λ (b : ℕ → _). IsWideLess f (vector f v x.1) (vector f v x.1 c.args.p) b) front taken in
-    let zc : f.laws.is_nought (v c.entry-c.result) ≡ false = cc (c.is_zero.ensures, c.if-not-is_zero.true) in
-    let z : f.laws.is_nought (vector f v x.1 c.args.p) ≡ false = rw (c.deref.ensures.value) at (sym (ap f.laws.is_nought c.entry-c.ensures) ∙ zc) in
+    let zc : f.laws.is_nought (v c.entry.result) ≡ false = cc (c.is_zero.ensures, c.if-not-is_zero.true) in
+    let z : f.laws.is_nought (vector f v x.1 c.args.p) ≡ false = rw (c.deref.ensures.value) at (sym (ap f.laws.is_nought c.entry.ensures) ∙ zc) in
     let w : IsWideClear f c.args.p u (exact_rows f v start) = wide_clear-at f v c.args.p u start c.loop-i.i x ls es z h in
     search rules
 
@@ -95,7 +95,7 @@ loop-i-preserved g c =
           rw (w.lines-is, seen-set c.loop-i.lines c.loop-i.i el w.take_multiple.new.row (n ∙ sym k.1)) s
       | else-not-is_zero w ↦
           let z : f.laws.is_nought (vector f v x.1 c.args.p) ≡ true =
-          rw (c.deref.ensures.value) at (sym (ap f.laws.is_nought c.entry-c.ensures) ∙ sym c.is_zero.ensures ∙ w.if-not-is_zero.false) in
+          rw (c.deref.ensures.value) at (sym (ap f.laws.is_nought c.entry.ensures) ∙ sym c.is_zero.ensures ∙ w.if-not-is_zero.false) in
           rw (w.lines-is, set-get_or c.loop-i.lines c.loop-i.i c.index-lines-i.result) (clearing-kept f v c.args.p u w0 start now c.loop-i.i x l ll e z c.loop-i.invariant)
     ]
 

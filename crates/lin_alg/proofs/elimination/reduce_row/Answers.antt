@@ -1,4 +1,4 @@
-use Rattle.std.proofs.Common.{◌≡◌, ℕ, ◌<◌, ◌≤◌, ◌+◌, sym, ◌∙◌, ap, subst, rules, arith, length, take, length-take, false, true, map, get_or, List}
+use Rattle.std.proofs.Common.{◌≡◌, ℕ, ◌<◌, ◌≤◌, ◌+◌, ◌∙◌, ap, subst, rules, arith, length, take, length-take, false, true, map, get_or, List}
 use Rattle.std.proofs.lemmas.List.{length-map}
 use Rattle.lin_alg.specs.Spans.{less}
 use Rattle.lin_alg.specs.Rows.{vector, exact_rows}
@@ -8,8 +8,8 @@ use Rattle.lin_alg.proofs.RowLemmas.{item-at, wide-at, ended-at, reducing-step, 
 use Rattle.lin_alg.proofs.elimination.reduce_row.Goals as goal
 use Rattle.lin_alg.proofs.elimination.reduce_row.Goals.{then-not-is_zero+in_ok-take_multiple, else-not-is_zero, After-line-item}
 
-pub entry-c-requires : goal.entry-c-requires
-entry-c-requires g c =
+pub entry-requires : goal.entry-requires
+entry-requires g c =
     let x : ℕ × List _ = (c.line-item.result.0, c.line-item.result.1.items) in
     let l : c.loop-line.line-index < length (map (λ r. (r.0, r.1.items)) c.args.lines.now) = rw length-map c.loop-line-test.true in
     let k : (c.line-item.result.0 < length c.args.row.now) × (length c.line-item.result.1.items ≡ length c.args.row.now) =
@@ -56,7 +56,7 @@ returns-in_err-take_multiple-clause-wide g c =
     let taken : IsWideLess f row (row x.0) (vector f v (take (x.0 + 1) x.1)) =
     rw c.deref.ensures.value at c.in_err-take_multiple.ensures.wide in
     let h : IsWideLess f row (row x.0) (vector f v x.1) = subst (λ (b : ℕ → _). IsWideLess f row (row x.0) b) front taken in
-    let z : f.laws.is_nought (row x.0) ≡ false = cc (c.entry-c.ensures, c.is_zero.ensures, c.if-not-is_zero.true) in
+    let z : f.laws.is_nought (row x.0) ≡ false = cc (c.entry.ensures, c.is_zero.ensures, c.if-not-is_zero.true) in
     let w : IsWideReduce f (exact_rows f v all) start = reducing-wide f v all start c.loop-line.line-index row x l e c.loop-line.invariant z h in
     search rules
 
@@ -80,7 +80,7 @@ loop-line-preserved g c =
           ap (vector f v) w.row-is ∙ taken ∙ ap (less f.laws row (row x.0)) front in
           rw h (reducing-step f v all start c.loop-line.line-index row x l e c.loop-line.invariant)
       | else-not-is_zero w ↦
-          let z : f.laws.is_nought (row x.0) ≡ true = cc (c.entry-c.ensures, c.is_zero.ensures, w.if-not-is_zero.false) in
+          let z : f.laws.is_nought (row x.0) ≡ true = cc (c.entry.ensures, c.is_zero.ensures, w.if-not-is_zero.false) in
           rw w.row-is (reducing-kept f v all start c.loop-line.line-index row x l e z c.loop-line.invariant)
     ]
 

@@ -1,4 +1,4 @@
-use Rattle.std.proofs.Common.{◌≡◌, ◌<◌, ◌≤◌, length, sym, ◌∙◌, ap, arith, true}
+use Rattle.std.proofs.Common.{◌≡◌, ◌<◌, length, sym, ◌∙◌, ap, arith, true}
 use Rattle.lin_alg.specs.Reduced.{scaled}
 use Rattle.lin_alg.specs.Rows.{vector}
 use Rattle.cyclo24.specs.FieldLaws.{times-nought}

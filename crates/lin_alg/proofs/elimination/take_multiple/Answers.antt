@@ -1,7 +1,6 @@
 use Rattle.std.proofs.Common.{◌≡◌, ◌<◌, arith, ap, ◌∙◌, length, true}
 use Rattle.lin_alg.specs.Spans.{less}
 use Rattle.lin_alg.specs.Rows.{vector}
-use Rattle.lin_alg.specs.Insertion.{IsWideLess}
 use Rattle.lin_alg.proofs.VectorLemmas.{vector-at, IsTaken, taken-written, taken-kept, taken-all}
 use Rattle.lin_alg.proofs.elimination.take_multiple.Goals as goal
 use Rattle.lin_alg.proofs.elimination.take_multiple.Goals.{then-not-is_zero+in_ok-product+in_ok-row, else-not-is_zero}
