@@ -3,8 +3,8 @@ use Rattle.std.proofs.Math.Seq.{drop-cons}
 use Rattle.std.proofs.lemmas.List.{get_or-map, drop_all}
 use Rattle.cyclo24.specs.ExactField.{ExactField, Value}
 use Rattle.lin_alg.specs.Spans.{less}
-use Rattle.lin_alg.specs.Reduced.{reduce}
-use Rattle.lin_alg.specs.Rows.{vector, exact_rows, HaveWidth}
+use Rattle.lin_alg.specs.Reduced.{reduce, IsReduced}
+use Rattle.lin_alg.specs.Rows.{vector, exact_rows, HaveWidth, AreEnded}
 use Rattle.lin_alg.specs.Insertion.{IsWideLess, IsWideReduce}
 use Rattle.cyclo24.specs.FieldLaws.{less-nought}
 use Rattle.lin_alg.specs.SpanLaws.{funext}
@@ -22,6 +22,18 @@ wide-at w (r ∷ rs) zero x a l e = let k : (r.0 < w) × (length r.1 ≡ w) = (a
 wide-at w (r ∷ rs) (suc i) x a l e = wide-at w rs i x a.2 (omega arith) e
 
 module _ {A : Type 0} (f : ExactField) (value : A → Value f) where
+  pub ended-at : (rs : List (ℕ × List A)) (i : ℕ) (x : ℕ × List A) → AreEnded f value rs → i < length rs → x ≡ get_or rs i x →
+      (j : ℕ) → x.0 < j → vector f value x.1 j ≡ f.laws.nought
+  ended-at [] i x a l e = absurd (omega arith)
+  ended-at (r ∷ rs) zero x a l e =
+      subst (λ (y : ℕ × List A). (j : ℕ) → y.0 < j → vector f value y.1 j ≡ f.laws.nought) (sym e) a.0
+  ended-at (r ∷ rs) (suc i) x a l e = ended-at rs i x a.1 (omega arith) e
+
+  -- the rows of a reduced form are 0 behind their pivots
+  pub reduced-ended : (rs : List (ℕ × List A)) → IsReduced f.laws (exact_rows f value rs) → AreEnded f value rs
+  reduced-ended [] r = tt
+  reduced-ended (x ∷ rs) r = (r.0.1, reduced-ended rs r.2)
+
   pub record IsReducing (all : List (ℕ × List A)) (start : ℕ → Value f) (i : ℕ) (row : ℕ → Value f) : Type 0 where
     pub reduced : reduce f.laws (exact_rows f value (drop i all)) row ≡ reduce f.laws (exact_rows f value all) start
     pub wide : IsWideReduce f (exact_rows f value (drop i all)) row → IsWideReduce f (exact_rows f value all) start

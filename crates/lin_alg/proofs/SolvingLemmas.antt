@@ -6,6 +6,7 @@ use Rattle.cyclo24.specs.FieldLaws.{neg-nought}
 use Rattle.lin_alg.specs.Spans.{less, IsInSpan, AreSame}
 use Rattle.lin_alg.specs.Rows.{vector}
 use Rattle.lin_alg.specs.RowLaws.{vector-past}
+use Rattle.lin_alg.proofs.VectorLemmas.{vector-take}
 
 dec : (k n : ℕ) → (k < n) ⊎ (n ≤ k)
 dec k n = grind arith
@@ -23,12 +24,6 @@ module _ {A : Type 0} (f : ExactField) (value : A → Value f) where
   vector-drop (suc n) [] j = refl
   vector-drop (suc n) (x ∷ xs) j = let e : suc n + j ≡ suc (n + j) = omega arith in vector-drop n xs j ∙ ap (vector f value (x ∷ xs)) (sym e)
 
-  vector-take : (n : ℕ) (xs : List A) (j : ℕ) → j < n → vector f value (take n xs) j ≡ vector f value xs j
-  vector-take zero xs j l = absurd (omega arith)
-  vector-take (suc n) [] j l = refl
-  vector-take (suc n) (x ∷ xs) zero l = refl
-  vector-take (suc n) (x ∷ xs) (suc j) l = vector-take n xs j (omega arith)
-
   -- what is left of a row behind its first n entries
   pub vector-dropped : (n : ℕ) (xs : List A) (j : ℕ) → vector f value (take (length xs - n) (drop n xs)) j ≡ vector f value xs (n + j)
   vector-dropped n xs j =
@@ -36,7 +31,7 @@ module _ {A : Type 0} (f : ExactField) (value : A → Value f) where
       ap (λ z. vector f value z j) (take_all (length xs - n) (drop n xs) l) ∙ vector-drop n xs j
 
   pub vector-taken : (n : ℕ) (xs ys : List A) → ys ≡ take n xs → (j : ℕ) → j < n → vector f value ys j ≡ vector f value xs j
-  vector-taken n xs ys e j l = ap (λ z. vector f value z j) e ∙ vector-take n xs j l
+  vector-taken n xs ys e j l = ap (λ z. vector f value z j) e ∙ vector-take f value n xs j l
 
   pub negated-all : (xs ys : List A) → length ys ≡ length xs → ((j : ℕ) → j < length xs → vector f value ys j ≡ f.laws.neg (vector f value xs j)) → (j : ℕ) → vector f value ys j ≡ f.laws.neg (vector f value xs j)
   negated-all xs ys e h j =

@@ -1,10 +1,15 @@
-use Rattle.std.proofs.Common.{◌≡◌, ℕ, ◌<◌, ◌≤◌, ◌+◌, ◌⊎◌, inl, inr, true, sym, ◌∙◌, ap, List, length, map, get_or, set, arith, length-set, below_more}
+use Rattle.std.proofs.Common.{◌≡◌, ℕ, suc, zero, ◌<◌, ◌≤◌, ◌+◌, ◌⊎◌, inl, inr, true, refl, sym, ◌∙◌, ap, List, [], ◌∷◌, length, map, get_or, set, take, arith, length-set, length-take, below_more}
 use Rattle.std.proofs.lemmas.List.{get_or-map, get_or-set_same, get_or-set_other, map-set, get_or_past, length-map}
 use Rattle.lin_alg.specs.Spans.{less}
-use Rattle.cyclo24.specs.FieldLaws.{less-at-nought}
+use Rattle.lin_alg.specs.Reduced.{scaled}
+use Rattle.cyclo24.specs.FieldLaws.{less-at-nought, times-nought}
 use Rattle.lin_alg.specs.SpanLaws.{funext}
 use Rattle.cyclo24.specs.ExactField.{ExactField, Value}
 use Rattle.lin_alg.specs.Rows.{vector}
+
+-- a row that is divided stays 0 where it is 0
+pub scaled-behind : (f : ExactField) (p : ℕ) (v : ℕ → Value f) (j : ℕ) → v j ≡ f.laws.nought → scaled f.laws p v j ≡ f.laws.nought
+scaled-behind f p v j z = ap (f.laws.times (f.laws.inverse (v p))) z ∙ times-nought f.laws (f.laws.inverse (v p))
 
 dec : (k n : ℕ) → (k < n) ⊎ (n ≤ k)
 dec k n = grind arith
@@ -23,6 +28,23 @@ module _ {A : Type 0} (f : ExactField) (value : A → Value f) where
 
   pub vector-past : (xs : List A) (j : ℕ) → length xs ≤ j → vector f value xs j ≡ f.laws.nought
   vector-past xs j l = get_or_past (map value xs) j f.laws.nought (rw length-map l)
+
+  pub vector-take : (n : ℕ) (xs : List A) (j : ℕ) → j < n → vector f value (take n xs) j ≡ vector f value xs j
+  vector-take zero xs j l = absurd (omega arith)
+  vector-take (suc n) [] j l = refl
+  vector-take (suc n) (x ∷ xs) zero l = refl
+  vector-take (suc n) (x ∷ xs) (suc j) l = vector-take n xs j (omega arith)
+
+  -- a row that is 0 behind p is its front
+  pub vector-front : (p : ℕ) (xs : List A) → ((j : ℕ) → p < j → vector f value xs j ≡ f.laws.nought) → vector f value (take (p + 1) xs) ≡ vector f value xs
+  vector-front p xs z =
+      funext (λ j. elim (dec j (p + 1)) [
+        | inl l ↦ vector-take (p + 1) xs j l
+        | inr l ↦
+            let past : length (take (p + 1) xs) ≤ j = rw length-take (omega arith) in
+            let behind : p < j = omega arith in
+            vector-past (take (p + 1) xs) j past ∙ sym (z j behind)
+      ])
 
   -- the columns below j are those of v - c b, and the others those of v
   pub record IsTaken (v : ℕ → Value f) (c : Value f) (b : ℕ → Value f) (row : List A) (j : ℕ) : Type 0 where
@@ -48,13 +70,12 @@ module _ {A : Type 0} (f : ExactField) (value : A → Value f) where
         ahead = λ k h. let h' : j ≤ k = omega arith in t.ahead k h';
       }
 
-  pub taken-all : (v : List A) (c : Value f) (b : List A) (row : List A) (j : ℕ) → length b ≤ j → length v ≡ length b → length row ≡ length v →
-      IsTaken (vector f value v) c (vector f value b) row j → vector f value row ≡ less f.laws (vector f value v) c (vector f value b)
-  taken-all v c b row j l e d t =
-      funext (λ k. elim (dec k (length b)) [
-        | inl h ↦ let h' : k < j = omega arith in t.done k h'
+  -- behind the end of b nothing is taken
+  pub taken-all : (v : ℕ → Value f) (c : Value f) (b row : List A) (j : ℕ) → length b ≤ j → IsTaken v c (vector f value b) row j → vector f value row ≡ less f.laws v c (vector f value b)
+  taken-all v c b row j l t =
+      funext (λ k. elim (dec k j) [
+        | inl h ↦ t.done k h
         | inr h ↦
-            let r : length row ≤ k = omega arith in
-            let vl : length v ≤ k = omega arith in
-            vector-past row k r ∙ sym (ap (λ x. f.laws.plus (vector f value v k) (f.laws.neg (f.laws.times c x))) (vector-past b k h) ∙ less-at-nought f.laws (vector f value v k) c ∙ vector-past v k vl)
+            let past : length b ≤ k = omega arith in
+            t.ahead k h ∙ sym (ap (λ x. f.laws.plus (v k) (f.laws.neg (f.laws.times c x))) (vector-past b k past) ∙ less-at-nought f.laws (v k) c)
       ])

@@ -31,6 +31,15 @@ module _ {A : Type 0} (f : ExactField) (value : A → Value f) where
     ahead = λ k h. let h' : j ≤ k = omega arith in t.ahead k h';
   }
 
+  -- from j on the target is as the start
+  pub written-front : (target start : ℕ → Value f) (row : List A) (j : ℕ) → ((k : ℕ) → j ≤ k → start k ≡ target k) →
+      IsWritten target start row j → vector f value row ≡ target
+  written-front target start row j z t =
+      funext (λ k. elim (dec k j) [
+        | inl h ↦ t.done k h
+        | inr h ↦ t.ahead k h ∙ z k h
+      ])
+
   pub written-all : (target start : ℕ → Value f) (row : List A) (j : ℕ) → length row ≤ j → ((k : ℕ) → length row ≤ k → target k ≡ f.laws.nought) →
       IsWritten target start row j → vector f value row ≡ target
   written-all target start row j l z t =

@@ -3,6 +3,7 @@
 -- vector f value xs: the exact values of the list, 0 behind its end
 -- exact_rows f value rows: the exact rows, each with its pivot
 -- HaveWidth w rows: each row is w entries long, its pivot below w
+-- AreEnded f value rows: each row is 0 behind its pivot
 use Rattle.std.specs.Prelude.{◌≡◌, ℕ, ◌<◌, List, [], ◌∷◌, length, map, get_or}
 use Rattle.cyclo24.specs.ExactField.{ExactField, Value}
 
@@ -19,6 +20,11 @@ exact_rows f value (r ∷ rs) = (r.0, vector f value r.1) ∷ exact_rows f value
 abbrev pub HaveWidth : {A : Type 0} → ℕ → List (ℕ × List A) → Type 0
 HaveWidth w [] = Unit {0}
 HaveWidth w (r ∷ rs) = (r.0 < w) × (length r.1 ≡ w) × HaveWidth w rs
+
+-- each row is 0 behind its pivot
+abbrev pub AreEnded : {A : Type 0} (f : ExactField) → (A → Value f) → List (ℕ × List A) → Type 0
+AreEnded f value [] = Unit {0}
+AreEnded f value (r ∷ rs) = ((j : ℕ) → r.0 < j → vector f value r.1 j ≡ f.laws.nought) × AreEnded f value rs
 
 -- each list has this length
 abbrev pub HaveLength : {A : Type 0} → ℕ → List (List A) → Type 0

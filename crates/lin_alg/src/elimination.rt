@@ -1,21 +1,26 @@
 // The written steps of an insertion over the stored rows: pairs of a pivot and the row's entries.
-ghost use Rattle.std.specs.Prelude.{◌≡◌, ◌<◌, ◌≤◌, ◌+◌, ◌++◌, ◌∷◌, ℕ, List, MatchOption, OnOk, OnErr, IfOk, vec_len, vec_capacity, length, map, take, drop, false};
+ghost use Rattle.std.specs.Prelude.{◌≡◌, ◌<◌, ◌≤◌, ◌+◌, ◌++◌, ◌∷◌, ℕ, List, MatchOption, OnOk, OnErr, IfOk, vec_len, vec_capacity, length, map, take, drop};
 ghost use Rattle.std.specs.List.{insert};
 ghost use Rattle.lin_alg.specs.Spans.{less};
 ghost use Rattle.lin_alg.specs.Reduced.{reduce, scaled, cleared, placed};
-ghost use Rattle.lin_alg.specs.Rows.{vector, exact_rows, HaveWidth, HaveLength};
+ghost use Rattle.lin_alg.specs.Rows.{vector, exact_rows, HaveWidth, HaveLength, AreEnded};
 ghost use Rattle.lin_alg.specs.Insertion.{IsLastColumn, IsWideLess, IsWideReduce, IsWideScale, IsWideClear, IsWideInsert, IsInserted};
 ghost use Rattle.lin_alg.specs.declared.echelon.Grew.TheVariants as grew;
 
 use crate::Grew;
 use cyclo24::{Field, Wide};
 
-// Takes c times b from the row.
-pub(crate) fn take_multiple<F: Field>(row: &mut [F], c: F, b: &[F]) -> Result<(), Wide>
-    requires { length row.old ≡ length b.now }
-    ensures exact { OnOk result (vector F.field F.value row.new ≡ less F.field.laws (vector F.field F.value row.old) (F.value c) (vector F.field F.value b.now)) }
-    ensures wide { OnErr result (IsWideLess F.field (vector F.field F.value row.old) (F.value c) (vector F.field F.value b.now)) }
+// Takes the multiple of b from the row that the row's entry at p says. Behind its end b is 0. It is
+// compiled into the two loops over the stored rows, which stay functions of their own: so it costs
+// the fewest instructions (`bench/lin_alg.sh`).
+#[inline(always)]
+fn take_multiple<F: Field>(row: &mut [F], p: usize, b: &[F]) -> Result<(), Wide>
+    requires place { p < length row.old }
+    requires length { length b.now ≤ length row.old }
+    ensures exact { OnOk result (vector F.field F.value row.new ≡ less F.field.laws (vector F.field F.value row.old) (vector F.field F.value row.old p) (vector F.field F.value b.now)) }
+    ensures wide { OnErr result (IsWideLess F.field (vector F.field F.value row.old) (vector F.field F.value row.old p) (vector F.field F.value b.now)) }
 {
+    let c = entry(row, p);
     for j in 0..b.len() {
         if !b[j].is_zero() {
             let product = c.mul(b[j])?;
@@ -33,16 +38,17 @@ pub(crate) fn entry<F: Field>(row: &[F], p: usize) -> F
     row[p]
 }
 
-// Step 1: takes the row to 0 in each pivot column.
+// Step 1: takes the row to 0 in each pivot column. A stored row is 0 behind its pivot.
+#[inline(never)]
 pub(crate) fn reduce_row<F: Field>(lines: &[(usize, Vec<F>)], row: &mut [F]) -> Result<(), Wide>
-    requires { HaveWidth (length row.old) (map (λ r. (r.0, r.1.items)) lines.now) }
+    requires shape { HaveWidth (length row.old) (map (λ r. (r.0, r.1.items)) lines.now) }
+    requires ended { AreEnded F.field F.value (map (λ r. (r.0, r.1.items)) lines.now) }
     ensures exact { OnOk result (vector F.field F.value row.new ≡ reduce F.field.laws (exact_rows F.field F.value (map (λ r. (r.0, r.1.items)) lines.now)) (vector F.field F.value row.old)) }
     ensures wide { OnErr result (IsWideReduce F.field (exact_rows F.field F.value (map (λ r. (r.0, r.1.items)) lines.now)) (vector F.field F.value row.old)) }
 {
     for line in lines {
-        let c = entry(row, line.0);
-        if !c.is_zero() {
-            take_multiple(row, c, &line.1)?;
+        if !entry(row, line.0).is_zero() {
+            take_multiple(row, line.0, &line.1[..line.0 + 1])?;
         }
     }
     Ok(())
@@ -60,18 +66,17 @@ pub(crate) fn last_column<F: Field>(row: &[F]) -> Option<usize>
     None
 }
 
-// Step 3: the row divided by its entry at p.
+// Step 3: the row divided by its entry at p, the last that isn't 0.
 fn scale<F: Field>(row: &mut [F], p: usize) -> Result<(), Wide>
     requires place { p < length row.old }
-    requires other { F.field.laws.is_nought (vector F.field F.value row.old p) ≡ false }
+    requires last { IsLastColumn F.field (vector F.field F.value row.old) p }
     ensures exact { OnOk result (vector F.field F.value row.new ≡ scaled F.field.laws p (vector F.field F.value row.old)) }
     ensures wide { OnErr result (IsWideScale F.field p (vector F.field F.value row.old)) }
 {
     let u = entry(row, p).inv()?;
-    for j in 0..row.len() {
-        let x = entry(row, j);
-        if !x.is_zero() {
-            row[j] = u.mul(x)?;
+    for j in 0..p + 1 {
+        if !row[j].is_zero() {
+            row[j] = u.mul(row[j])?;
         }
     }
     Ok(())
@@ -89,19 +94,21 @@ fn place_of<F: Field>(lines: &[(usize, Vec<F>)], p: usize) -> usize
     lines.len()
 }
 
-// Step 4: the stored rows less the multiples of the row that make them 0 at p.
+// Step 4: the stored rows less the multiples of the row that make them 0 at p. The row is 0 behind p.
+#[inline(never)]
 fn clear_lines<F: Field>(lines: &mut [(usize, Vec<F>)], p: usize, row: &[F]) -> Result<(), Wide>
     requires shape { HaveWidth (length row.now) (map (λ r. (r.0, r.1.items)) lines.old) }
     requires place { p < length row.now }
+    requires ended { (j : ℕ) → p < j → vector F.field F.value row.now j ≡ F.field.laws.nought }
     ensures shape { HaveWidth (length row.now) (map (λ r. (r.0, r.1.items)) lines.new) }
     ensures exact { OnOk result (exact_rows F.field F.value (map (λ r. (r.0, r.1.items)) lines.new) ≡ cleared F.field.laws p (vector F.field F.value row.now) (exact_rows F.field F.value (map (λ r. (r.0, r.1.items)) lines.old))) }
     ensures wide { OnErr result (IsWideClear F.field p (vector F.field F.value row.now) (exact_rows F.field F.value (map (λ r. (r.0, r.1.items)) lines.old))) }
 {
+    let head = &row[..p + 1];
     for i in 0..lines.len() {
         let line = &mut lines[i];
-        let c = entry(&line.1, p);
-        if !c.is_zero() {
-            take_multiple(&mut line.1, c, row)?;
+        if !entry(&line.1, p).is_zero() {
+            take_multiple(&mut line.1, p, head)?;
         }
     }
     Ok(())
@@ -140,6 +147,7 @@ pub(crate) fn insert_row<F: Field>(
     requires some { 0 < vec_len spare.old }
     requires long { HaveLength (length row.old) (map (λ r. r.items) spare.old.items) }
     requires shape { HaveWidth (length row.old) (map (λ r. (r.0, r.1.items)) lines.old.items) }
+    requires ended { AreEnded F.field F.value (map (λ r. (r.0, r.1.items)) lines.old.items) }
     ensures room { vec_len lines.new + vec_len spare.new ≤ vec_capacity lines.new }
     ensures less { IfOk result (λ g. (g ≡ grew.No) → vec_len spare.new ≡ vec_len spare.old) }
     ensures one { vec_len spare.old ≤ vec_len spare.new + 1 }

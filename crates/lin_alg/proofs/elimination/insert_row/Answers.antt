@@ -4,7 +4,14 @@ use Rattle.lin_alg.specs.Insertion.{IsWideClear, IsWideInsert}
 use Rattle.lin_alg.proofs.HeldLemmas.{wide_insert}
 use Rattle.std.proofs.Common.{◌≡◌, ◌<◌, ℕ, length, map, List, refl, sym, ◌∙◌, ap, rules}
 use Rattle.lin_alg.proofs.PutLemmas.{wide-put}
+use Rattle.lin_alg.proofs.VectorLemmas.{scaled-behind}
 use Rattle.lin_alg.proofs.elimination.insert_row.Goals as goal
+
+pub clear_lines-requires-clause-ended : goal.clear_lines-requires-clause-ended
+clear_lines-requires-clause-ended g c j l =
+    let f = g.F.Field.field in
+    let v = g.F.Field.value in
+    ap (λ z. z j) c.in_ok-scale-in-Some.ensures.exact ∙ scaled-behind f c.in-Some.p (vector f v c.reduce_row.new.row) j (c.in-Some.ensures.1.1 j l)
 
 pub returns-in_ok-clear_lines-in-Some-clause-shape : goal.returns-in_ok-clear_lines-in-Some-clause-shape
 returns-in_ok-clear_lines-in-Some-clause-shape g c =

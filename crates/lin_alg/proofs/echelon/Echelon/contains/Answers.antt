@@ -3,7 +3,16 @@ use Rattle.lin_alg.specs.Spans.{IsInSpan}
 use Rattle.lin_alg.specs.Reduced.{reduce}
 use Rattle.lin_alg.specs.Rows.{vector, exact_rows}
 use Rattle.lin_alg.proofs.HeldLemmas.{left_member, left_other}
+use Rattle.lin_alg.proofs.RowLemmas.{reduced-ended}
 use Rattle.lin_alg.proofs.echelon.Echelon.contains.Goals as goal
+
+pub reduce_row-requires-clause-ended : goal.reduce_row-requires-clause-ended
+reduce_row-requires-clause-ended g c =
+    let f = g.F.Field.field in
+    let v = g.F.Field.value in
+    let old : List (ℕ × List _) = map (λ r. (r.0, r.1.items)) c.self.inside.lines.items in
+    let whole : c.self.inside.whole ≡ true = ap (λ z. z.whole) c.self.view_is ∙ c.requires.whole in
+    rw c.deref.ensures.value (reduced-ended f v old (c.self.invariant.2.form whole).reduced)
 
 pub returns-in-None-clause-member : goal.returns-in-None-clause-member
 returns-in-None-clause-member g c =

@@ -4,8 +4,17 @@ use Rattle.lin_alg.specs.Spans.{IsInSpan}
 use Rattle.lin_alg.specs.Rows.{exact_rows, vector, HaveWidth, HaveLength}
 use Rattle.lin_alg.specs.Equations.{dot, Vanishes}
 use Rattle.lin_alg.specs.Insertion.{IsWideInsert}
+use Rattle.lin_alg.proofs.RowLemmas.{reduced-ended}
 use Rattle.lin_alg.proofs.HeldLemmas.{inserted_echelon, inserted_span, inserted_grew, inserted_cut}
 use Rattle.lin_alg.proofs.echelon.Echelon.insert.Goals as goal
+
+pub insert_row-requires-clause-ended : goal.insert_row-requires-clause-ended
+insert_row-requires-clause-ended g c =
+    let f = g.F.Field.field in
+    let v = g.F.Field.value in
+    let old : List (ℕ × List _) = map (λ r. (r.0, r.1.items)) c.self.inside.lines.items in
+    let whole : c.self.inside.whole ≡ true = ap (λ z. z.whole) c.self.view_is ∙ c.in_ok-make_room.ensures.whole ∙ c.requires.whole in
+    reduced-ended f v old (c.self.invariant.2.form whole).reduced
 
 pub invariant_of-self : goal.invariant_of-self
 invariant_of-self g c =

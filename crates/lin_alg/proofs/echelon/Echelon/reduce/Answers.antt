@@ -3,7 +3,16 @@ use Rattle.lin_alg.specs.Spans.{less, IsInSpan}
 use Rattle.lin_alg.specs.Reduced.{reduce, IsClear}
 use Rattle.lin_alg.specs.Rows.{vector, exact_rows}
 use Rattle.lin_alg.proofs.HeldLemmas.{left_differs, left_clear}
+use Rattle.lin_alg.proofs.RowLemmas.{reduced-ended}
 use Rattle.lin_alg.proofs.echelon.Echelon.reduce.Goals as goal
+
+pub reduce_row-requires-clause-ended : goal.reduce_row-requires-clause-ended
+reduce_row-requires-clause-ended g c =
+    let f = g.F.Field.field in
+    let v = g.F.Field.value in
+    let old : List (ℕ × List _) = map (λ r. (r.0, r.1.items)) c.self.inside.lines.items in
+    let whole : c.self.inside.whole ≡ true = ap (λ z. z.whole) c.self.view_is ∙ c.requires.whole in
+    rw c.deref.ensures.value (reduced-ended f v old (c.self.invariant.2.form whole).reduced)
 
 pub returns-clause-differs : goal.returns-clause-differs
 returns-clause-differs g c =
