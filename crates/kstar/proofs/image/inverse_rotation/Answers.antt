@@ -1,7 +1,6 @@
-use Rattle.std.proofs.Common.{sym, subst, ap, ◌∙◌, get_or}
+use Rattle.std.proofs.Common.{sym, subst, get_or}
 use Rattle.space_ops.specs.declared.op.Op.{Op}
-use Rattle.space_ops.specs.Op.{seitz_of, identity_op, IsSmallMatrix, IsUnimodular, IsShiftWithin, vector_of}
-use Rattle.kstar.specs.WaveVector.{row_product}
+use Rattle.space_ops.specs.Op.{seitz_of, identity_op, IsSmallMatrix, IsUnimodular, IsShiftWithin}
 use Rattle.kstar.specs.LittleLaws.{unimodular-at}
 use Rattle.kstar.proofs.Columns.{op_near, inverse_rotation, inverse_small}
 use Rattle.kstar.proofs.image.inverse_rotation.Goals as goal

@@ -1,4 +1,4 @@
-use Rattle.std.proofs.Common.{◌∙◌, refl, sym, ap, subst, pos, negsuc, [], ◌∷◌, arith}
+use Rattle.std.proofs.Common.{◌∙◌, refl, sym, subst, pos, negsuc, [], ◌∷◌, arith}
 use Rattle.space_ops.specs.declared.lattice.Lattice.{Lattice}
 use Rattle.space_ops.specs.declared.lattice.Lattice.TheVariants.{P}
 use Rattle.space_ops.specs.Op.{vector_of}

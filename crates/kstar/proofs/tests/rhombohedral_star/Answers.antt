@@ -1,4 +1,4 @@
-use Rattle.std.proofs.Common.{◌∙◌, refl, sym, ap, subst, pos, [], ◌∷◌, arith}
+use Rattle.std.proofs.Common.{◌∙◌, refl, sym, subst, pos, [], ◌∷◌, arith}
 use Rattle.space_ops.specs.declared.lattice.Lattice.{Lattice}
 use Rattle.space_ops.specs.declared.lattice.Lattice.TheVariants.{R}
 use Rattle.space_ops.specs.Op.{vector_of}
