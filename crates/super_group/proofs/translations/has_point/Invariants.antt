@@ -1,0 +1,7 @@
+use Rattle.std.proofs.Common.{ℕ, ◌<◌}
+use Rattle.super_group.specs.TranslationsBefore.{IsAt, coordinate}
+use Rattle.super_group.proofs.translations.has_point.Given as goal
+
+abbrev pub invariant-loop-c : goal.invariant-loop-c
+invariant-loop-c l =
+    (k : ℕ) → k < l.c-index → IsAt (coordinate l.centrings k 0) l.x → IsAt (coordinate l.centrings k 1) l.y → IsAt (coordinate l.centrings k 2) l.z → ⊥

@@ -1,0 +1,11 @@
+-- What contracts see of a quotient's fields.
+use Rattle.std.specs.Prelude.{◌≤◌}
+use Rattle.super_group.specs.declared.quotient.Quotient.TheInside.{Inside}
+use Rattle.super_group.specs.Quotient.{SupercellGroup, IsQuotient, order_of}
+
+abbrev pub view_of : Inside → SupercellGroup
+view_of s = record { parent = s.group; d = s.d; translations = s.translations.items }
+
+pub record IsHeld (s : Inside) : Type 0 where
+  pub quotient : IsQuotient (view_of s)
+  pub few : order_of (view_of s) ≤ 6144

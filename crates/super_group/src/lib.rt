@@ -1,0 +1,20 @@
+//! A space group modulo the translations of a supercell: a finite group whose elements are numbered.
+//!
+//! The supercell has d1, d2 and d3 cell edges along the axes, so that each wave vector of a file has
+//! whole products with its translations. Conventions are those of `space_ops`.
+//!
+//! For the layer above: `multipliers` gives the supercell of some wave vectors, and `Quotient` its
+//! group, with elements from numbers and numbers from operations.
+#![tactic(auto)]
+
+mod denominators;
+mod inside;
+mod joined;
+mod quotient;
+mod translations;
+
+pub use denominators::{are_denominators, multipliers};
+pub use quotient::{MAX_ORDER, Quotient, QuotientError};
+
+#[cfg(test)]
+mod tests;

@@ -1,0 +1,273 @@
+// The group modulo a supercell.
+ghost use Rattle.std.specs.Prelude.{◌≡◌, ℕ, ◌<◌, ◌≤◌, ◌+◌, ◌*◌, ◌++◌, map, length};
+ghost use Rattle.space_ops.specs.Op.{vector_of, shift_of};
+ghost use Rattle.super_group.specs.Supercell.{multiplier};
+ghost use Rattle.super_group.specs.Quotient.{place_among, order_in as order_of_parent};
+ghost use Rattle.super_group.specs.QuotientParts.{IsRisingList, IsAmong, translation_op, motion_ops};
+
+use crate::inside::{rest_inside, sum_inside};
+use crate::translations::translations;
+use arrayvec::ArrayVec;
+use iso_text::NoMemory;
+use space_ops::{Group, Op};
+use std::alloc::Global;
+use std::marker::Model;
+use thiserror::Error;
+
+/// The greatest order of a quotient.
+pub const MAX_ORDER: u64 = 6144;
+
+/// Why a supercell has no quotient.
+#[derive(Clone, Copy, Debug, PartialEq, Eq, Error)]
+pub enum QuotientError {
+    /// The order, which passes 6,144.
+    #[error("the order passes 6144")]
+    TooLargeGroup(u64),
+    /// Want of memory.
+    #[error("out of memory")]
+    NoMemory,
+}
+
+/// The parent group modulo the translations of a supercell of d1, d2 and d3 cell edges. Element
+/// q = r T + t, from 0, is rotation r of the group's list with its translation and translation t of
+/// the T lattice translations inside the supercell; 0 is the identity.
+#[derive(Drop)]
+pub struct Quotient {
+    group: Group,
+    d: [u32; 3],
+    translations: Vec<[i32; 3]>,
+}
+
+impl Model for Quotient {
+    ghost use Rattle.super_group.specs.Quotient.{SupercellGroup};
+
+    ghost Value = { SupercellGroup };
+
+    ghost use Rattle.super_group.specs.QuotientView.{view_of, IsHeld};
+
+    ghost view = { view_of };
+
+    ghost invariant = { IsHeld };
+}
+
+impl Quotient {
+    ghost use Rattle.std.specs.Prelude.{◌≡◌, ℕ, ◌<◌, ◌≤◌, IfOk, Err, length, slice_index_or};
+    ghost use Rattle.iso_text.specs.NumberedGroup.{IsGroup, IsGenerated};
+    ghost use Rattle.space_ops.specs.Seitz.{seitz_product, seitz_inverse};
+    ghost use Rattle.space_ops.specs.Whole.{whole};
+    ghost use Rattle.space_ops.specs.Op.{seitz_of, op_of, matrix_of, IsSmallRotation, IsShiftWithin, IsUnimodular};
+    ghost use Rattle.space_ops.specs.GroupLaws.{place_of};
+    ghost use Rattle.super_group.specs.Supercell.{IsSupercell, IsSameElement};
+    ghost use Rattle.super_group.specs.Quotient.{IsQuotient, IsNumbered, IsMember, order_in, order_of, element_of, number_of, quotient_group, generators_of};
+
+    /// The quotient of the group by the supercell. Condition: the multipliers are from 1 to 12, and
+    /// equal on joined axes, as those of `multipliers` are.
+    pub fn new(alloc: Global, group: Group, d: [u32; 3]) -> Result<Quotient, QuotientError>
+        requires { IsSupercell group.ops d }
+        ensures group { IfOk result (λ quotient. quotient.parent ≡ group) }
+        ensures d { IfOk result (λ quotient. quotient.d ≡ d) }
+        ensures quotient { IfOk result (λ quotient. IsQuotient quotient) }
+        ensures small { IfOk result (λ _. order_in group d ≤ 6144) }
+        ensures large { (order : ℕ) → result ≡ Err (QuotientError.TooLargeGroup order) → (order ≡ order_in group d) × (6144 < order) }
+    {
+        let order = order_in(&group, d);
+        if order > MAX_ORDER {
+            return Err(QuotientError::TooLargeGroup(order));
+        }
+        let translations = match translations(alloc, group.lattice(), d) {
+            Ok(translations) => translations,
+            Err(_) => return Err(QuotientError::NoMemory),
+        };
+        Ok(Quotient {
+            group,
+            d,
+            translations,
+        })
+    }
+
+    /// The same quotient again.
+    pub fn copy(&self, alloc: Global) -> Result<Quotient, NoMemory>
+        ensures { IfOk result (λ copy. copy ≡ self.now) }
+    {
+        let group = match self.group.copy(alloc) {
+            Ok(group) => group,
+            Err(_) => return Err(NoMemory),
+        };
+        let translations = match Vec::from_slice(alloc, &self.translations) {
+            Ok(translations) => translations,
+            Err(_) => return Err(NoMemory),
+        };
+        Ok(Quotient {
+            group,
+            d: self.d,
+            translations,
+        })
+    }
+
+    /// The parent group.
+    pub fn group(&self) -> &Group
+        ensures { result.now ≡ self.now.parent }
+    {
+        &self.group
+    }
+
+    /// The number of elements: rotations times centrings times cells.
+    pub fn order(&self) -> usize
+        ensures value { result ≡ order_of self.now }
+        ensures cells { result ≡ order_in self.now.parent self.now.d }
+        ensures quotient { IsQuotient self.now }
+        ensures numbered { IsNumbered self.now }
+        ensures group { IsGroup (quotient_group self.now) }
+    {
+        self.group.len() * self.translations.len()
+    }
+
+    /// The multipliers.
+    pub fn d(&self) -> [u32; 3]
+        ensures { result ≡ self.now.d }
+    {
+        self.d
+    }
+
+    /// The lattice translations inside the supercell in twelfths of a cell edge, rising.
+    pub fn translations(&self) -> &[[i32; 3]]
+        ensures { result.now ≡ self.now.translations }
+    {
+        &self.translations
+    }
+
+    /// The operation of element q, its translation reduced into the supercell. It may be composed and
+    /// inverted.
+    pub fn element(&self, q: usize) -> Op
+        requires { q < order_of self.now }
+        ensures element { result ≡ op_of (element_of self.now q) }
+        ensures member { IsMember self.now (element_of self.now q) }
+        ensures back { IsMember self.now (seitz_inverse whole (element_of self.now q)) }
+        ensures small { IsSmallRotation result.rot }
+        ensures near { IsShiftWithin 1000000 result.shift }
+        ensures unimodular { IsUnimodular (matrix_of result.rot) }
+    {
+        let count = self.translations.len();
+        let listed = self.group.op(q / count);
+        let shift = sum_inside(listed.shift, self.translations[q % count], self.d);
+        let rot = listed.rot;
+        Op { rot, shift }
+    }
+
+    /// The number of the element that a member of the parent group is. Condition: it is a member.
+    pub fn number(&self, op: Op) -> usize
+        requires { IsMember self.now (seitz_of op) }
+        ensures number { result ≡ number_of self.now (seitz_of op) }
+        ensures below { result < order_of self.now }
+        ensures same { IsSameElement self.now.d (element_of self.now result) (seitz_of op) }
+    {
+        let rotation = self.rotation_number(op);
+        let listed = self.group.op(rotation);
+        let rest = rest_inside(op.shift, listed.shift, self.d);
+        rotation * self.translations.len() + place_in(&self.translations, rest)
+    }
+
+    /// The number of the product of two elements.
+    pub fn product(&self, a: usize, b: usize) -> usize
+        requires left { a < order_of self.now }
+        requires right { b < order_of self.now }
+        ensures product { result ≡ (quotient_group self.now).product a b }
+        ensures below { result < order_of self.now }
+        ensures same { IsSameElement self.now.d (element_of self.now result) (seitz_product whole (element_of self.now a) (element_of self.now b)) }
+    {
+        let left = self.element(a);
+        let right = self.element(b);
+        self.number(left.compose(right))
+    }
+
+    /// The number of the inverse of an element.
+    pub fn inverse(&self, a: usize) -> usize
+        requires { a < order_of self.now }
+        ensures inverse { result ≡ (quotient_group self.now).inverse a }
+        ensures below { result < order_of self.now }
+        ensures same { IsSameElement self.now.d (element_of self.now result) (seitz_inverse whole (element_of self.now a)) }
+    {
+        let element = self.element(a);
+        self.number(element.inverse())
+    }
+
+    /// The numbers of the generators: those of the symbol, then the centrings other than zero, then
+    /// the three unit translations.
+    pub fn generators(&self) -> ArrayVec<usize, 11>
+        ensures numbers { result.items ≡ generators_of self.now }
+        ensures generate { IsGenerated (quotient_group self.now) (length result.items) (λ i. slice_index_or result.items i 0) }
+    {
+        let motions = motions_in(&self.group);
+        let mut numbers: ArrayVec<usize, 11> = ArrayVec::new();
+        for motion in motions.as_slice() {
+            numbers.push(self.number(*motion));
+        }
+        numbers
+    }
+
+    fn rotation_number(&self, op: Op) -> usize
+        requires { IsMember self.now (seitz_of op) }
+        ensures place { result ≡ place_of self.now.parent.ops (matrix_of op.rot) }
+        ensures below { result < length self.now.parent.ops }
+    {
+        match self.group.index_of(op.rot) {
+            Some(rotation) => rotation,
+            None => unreachable!(),
+        }
+    }
+}
+
+fn place_in(translations: &[[i32; 3]], v: [i32; 3]) -> usize
+    requires rising { IsRisingList translations.now }
+    requires listed { IsAmong translations.now (vector_of v) }
+    requires triple { v ≡ shift_of (vector_of v) }
+    ensures value { result ≡ place_among translations.now (vector_of v) }
+    ensures below { result < length translations.now }
+{
+    match translations.binary_search(&v) {
+        Ok(place) => place,
+        Err(_) => unreachable!(),
+    }
+}
+
+fn cells_in(d: [u32; 3]) -> u64
+    requires { (i : ℕ) → i < 3 → multiplier d i ≤ 12 }
+    ensures value { result ≡ multiplier d 0 * multiplier d 1 * multiplier d 2 }
+    ensures few { result ≤ 1728 }
+{
+    u64::from(d[0]) * u64::from(d[1]) * u64::from(d[2])
+}
+
+fn order_in(group: &Group, d: [u32; 3]) -> u64
+    requires { (i : ℕ) → i < 3 → multiplier d i ≤ 12 }
+    ensures { result ≡ order_of_parent group.now d }
+{
+    group.len() as u64 * group.lattice().centrings().len() as u64 * cells_in(d)
+}
+
+const UNIT: [[i8; 3]; 3] = [[1, 0, 0], [0, 1, 0], [0, 0, 1]];
+
+fn push_translations(motions: &mut ArrayVec<Op, 11>, vectors: &[[i32; 3]])
+    requires { length motions.old.items + length vectors.now ≤ 11 }
+    ensures { motions.new.items ≡ motions.old.items ++ map translation_op vectors.now }
+{
+    for vector in vectors {
+        motions.push(Op {
+            rot: UNIT,
+            shift: *vector,
+        });
+    }
+}
+
+fn motions_in(group: &Group) -> ArrayVec<Op, 11>
+    requires { length group.now.generators ≤ 5 }
+    ensures { result.items ≡ motion_ops group.now }
+{
+    let mut motions: ArrayVec<Op, 11> = ArrayVec::new();
+    for generator in group.generators() {
+        motions.push(*generator);
+    }
+    push_translations(&mut motions, &group.lattice().centrings().as_slice()[1..]);
+    push_translations(&mut motions, &[[12, 0, 0], [0, 12, 0], [0, 0, 12]]);
+    motions
+}
