@@ -2,7 +2,7 @@
 --
 -- Finding: a report's bytes, or a refusal
 -- IsOutcome job bytes f: f is what the definitions say
-use Rattle.std.specs.Prelude.{◌≡◌, ◌⊎◌, ℕ, ◌<◌, List, length}
+use Rattle.std.specs.Prelude.{◌≡◌, ◌⊎◌, ℕ, ◌<◌, ◌≤◌, List, [], length}
 use Rattle.iso_text.specs.File.{IsFile, HasCause}
 use Rattle.iso_text.specs.FileValue.{File}
 use Rattle.iso_text.specs.Lines.{lines_of}
@@ -12,6 +12,8 @@ use Rattle.space_ops.specs.Group.{Parent, IsParentGroup}
 use Rattle.space_ops.specs.Words.{HasTooManyRotations, HasExtraTranslation}
 use Rattle.space_ops.specs.declared.lattice.Lattice.{Lattice}
 use Rattle.space_ops.specs.declared.op.Op.{Op}
+use Rattle.super_group.specs.Multipliers.{AreMultipliers}
+use Rattle.super_group.specs.Quotient.{SupercellGroup, IsQuotient, order_in}
 use Rattle.iso_report.specs.declared.job.Job.{Job}
 use Rattle.iso_report.specs.declared.job.Job.TheVariants as job
 use Rattle.iso_report.specs.declared.refusal.Refusal.{Refusal}
@@ -73,11 +75,23 @@ AfterParent next lattice gens f =
     ⊎ (((HasTooManyRotations gens lattice → ⊥) × HasExtraTranslation gens lattice × (f ≡ refused refusal.ExtraTranslation))
     ⊎ ((HasTooManyRotations gens lattice → ⊥) × (HasExtraTranslation gens lattice → ⊥) × ((parent : Parent) × IsParentOf gens lattice parent × next parent f)))
 
--- the report of the parent group
-abbrev pub IsChecked : Parent → Finding → Type 0
-IsChecked parent f = f ≡ report (check_text parent)
+-- the parent modulo the least supercell of wave vectors with these denominators
+pub record IsQuotientFor (dens : List (List ℕ)) (parent : Parent) (s : SupercellGroup) : Type 0 where
+  pub quotient : IsQuotient s
+  pub parent_is : s.parent ≡ parent
+  pub multipliers : AreMultipliers parent.ops dens s.d
+
+-- the order of the parent modulo the supercell is at most 6144
+abbrev pub AfterSupercell : (SupercellGroup → Finding → Type 0) → List (List ℕ) → Parent → Finding → Type 0
+AfterSupercell next dens parent f =
+    ((d : List ℕ) × AreMultipliers parent.ops dens d × (6144 < order_in parent d) × (f ≡ refused (refusal.TooLargeGroup (order_in parent d))))
+    ⊎ ((s : SupercellGroup) × IsQuotientFor dens parent s × (order_in parent s.d ≤ 6144) × next s f)
+
+-- the report of the parent group and its quotient
+abbrev pub IsChecked : SupercellGroup → Finding → Type 0
+IsChecked s f = f ≡ report (check_text s)
 
 -- what the definitions say for a job and a file's bytes
 abbrev pub IsOutcome : Job → List ℕ → Finding → Type 0
 IsOutcome job.List bytes f = AfterForm (AfterLaw IsListed) bytes f
-IsOutcome job.Check bytes f = AfterText (AfterIrreps (AfterHall (AfterParent IsChecked))) bytes f
+IsOutcome job.Check bytes f = AfterText (AfterIrreps (AfterHall (AfterParent (AfterSupercell IsChecked [])))) bytes f

@@ -51,6 +51,7 @@ refusal_text (refusal.BadText n) = codes "line " ++ decimal n ++ codes ": bad te
 refusal_text (refusal.BadHall n) = codes "line " ++ decimal n ++ codes ": bad Hall symbol"
 refusal_text refusal.TooManyRotations = codes "too many rotations"
 refusal_text refusal.ExtraTranslation = codes "extra translation"
+refusal_text (refusal.TooLargeGroup order) = codes "group order " ++ decimal order ++ codes " is past 6144"
 refusal_text (refusal.NotMultiplying name a b) =
     codes "irrep " ++ name ++ codes ": matrices of " ++ text_of a ++ codes " and " ++ text_of b ++ codes " don't multiply"
 

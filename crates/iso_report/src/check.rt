@@ -1,5 +1,5 @@
 // The report of `check`.
-ghost use Rattle.std.specs.Prelude.{◌≡◌, ◌≤◌, ◌*◌, ◌++◌, [], IfOk, OnOk, length, flat_map, codes, decimal};
+ghost use Rattle.std.specs.Prelude.{◌≡◌, ◌≤◌, ◌++◌, [], IfOk, OnOk, length, flat_map, codes, decimal};
 ghost use Rattle.space_ops.specs.Lattice.{centrings_of};
 ghost use Rattle.space_ops.specs.OpText.{text_of};
 ghost use Rattle.iso_report.specs.Check.{lattice_letter, lattice_line, listed_line, supercell_line, check_text};
@@ -9,6 +9,7 @@ use crate::report::op_line;
 use iso_text::{NoMemory, Text};
 use space_ops::{Group, Lattice};
 use std::alloc::Global;
+use super_group::Quotient;
 
 // The letter of a lattice.
 fn lattice_letter(lattice: Lattice) -> &'static [u8]
@@ -41,11 +42,17 @@ fn lattice_text(alloc: Global, lattice: Lattice, rotations: usize) -> Result<Tex
 }
 
 // The line of the supercell.
-fn supercell_text(alloc: Global, order: usize) -> Result<Text, NoMemory>
-    ensures { IfOk result (λ text. text ≡ supercell_line order) }
+fn supercell_text(alloc: Global, d: [u32; 3], order: usize) -> Result<Text, NoMemory>
+    ensures { IfOk result (λ text. text ≡ supercell_line d order) }
 {
     let mut text = Text::new(alloc);
-    text.push(b"supercell 1 1 1 order ")?;
+    text.push(b"supercell ")?;
+    text.push_number(d[0] as u64)?;
+    text.push(b" ")?;
+    text.push_number(d[1] as u64)?;
+    text.push(b" ")?;
+    text.push_number(d[2] as u64)?;
+    text.push(b" order ")?;
     text.push_number(order as u64)?;
     text.push(b"\n")?;
     Ok(text)
@@ -62,10 +69,12 @@ fn push_listed(alloc: Global, text: &mut Text, group: &Group) -> Result<(), NoMe
     Ok(())
 }
 
-/// The report of `check` on a parent group: the lattice, the operations, and the supercell.
-pub fn check_report(alloc: Global, group: &Group) -> Result<Text, NoMemory>
-    ensures { IfOk result (λ text. text ≡ check_text group.now) }
+/// The report of `check` on a parent group and its quotient: the lattice, the operations, the
+/// multipliers of the supercell and the order of the quotient.
+pub fn check_report(alloc: Global, quotient: &Quotient) -> Result<Text, NoMemory>
+    ensures { IfOk result (λ text. text ≡ check_text quotient.now) }
 {
+    let group = quotient.group();
     let lattice = group.lattice();
     let rotations = group.len();
     let mut text = Text::new(alloc);
@@ -73,7 +82,6 @@ pub fn check_report(alloc: Global, group: &Group) -> Result<Text, NoMemory>
     text.push(lattice_text(alloc, lattice, rotations)?.as_slice())?;
     text.push(b"\n")?;
     push_listed(alloc, &mut text, group)?;
-    let order = rotations * lattice.centrings().len();
-    text.push(supercell_text(alloc, order)?.as_slice())?;
+    text.push(supercell_text(alloc, quotient.d(), quotient.order())?.as_slice())?;
     Ok(text)
 }

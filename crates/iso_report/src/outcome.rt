@@ -1,8 +1,8 @@
 // A job over a file's bytes.
-ghost use Rattle.std.specs.Prelude.{◌≡◌, ◌≤◌, length, IfOk, MatchResult, Some, slice_get};
+ghost use Rattle.std.specs.Prelude.{◌≡◌, ◌≤◌, [], length, IfOk, MatchResult, Some, slice_get};
 ghost use Rattle.iso_report.specs.Endings.{RunIsDone, RunFails, change};
 ghost use Rattle.iso_report.specs.Found.{finding_of};
-ghost use Rattle.iso_report.specs.Outcome.{AfterForm, AfterLaw, IsListed, AfterText, AfterIrreps, AfterHall, AfterParent, IsChecked, IsOutcome};
+ghost use Rattle.iso_report.specs.Outcome.{AfterForm, AfterLaw, IsListed, AfterText, AfterIrreps, AfterHall, AfterParent, AfterSupercell, IsChecked, IsOutcome};
 ghost use Rattle.space_ops.specs.Group.{AreGenerators};
 ghost use Rattle.iso_report.specs.SignFile.{operations_of};
 
@@ -17,6 +17,7 @@ use crate::sign_rep::{first_failing, operation};
 use iso_text::{Document, MAX_BYTES, NoMemory, ReadError, Sink, put_all};
 use space_ops::{Group, GroupError, Lattice, Op};
 use std::alloc::Global;
+use super_group::{Quotient, QuotientError, multipliers};
 
 // The listing of a file's irrep, or the first pair of values that don't multiply.
 fn list(alloc: Global, file: &SignFile) -> Result<Found, NoMemory>
@@ -46,13 +47,27 @@ fn find_listing(alloc: Global, bytes: &[u8]) -> Result<Found, NoMemory>
     }
 }
 
+// The report of a parent group and its quotient for no wave vectors, or why there is none.
+fn check_group(alloc: Global, group: Group) -> Result<Found, NoMemory>
+    ensures { IfOk result (λ found. AfterSupercell IsChecked [] group (finding_of found)) }
+{
+    let d = multipliers(&group, &[]);
+    match Quotient::new(alloc, group, d) {
+        Ok(quotient) => Ok(Found::Report(check_report(alloc, &quotient)?)),
+        Err(QuotientError::TooLargeGroup(order)) => Ok(Found::Refused(Refusal::TooLargeGroup(
+            order,
+        ))),
+        Err(QuotientError::NoMemory) => Err(NoMemory),
+    }
+}
+
 // The report of the parent group of generators and a lattice, or why there is none.
 fn check_parent(alloc: Global, lattice: Lattice, generators: &[Op]) -> Result<Found, NoMemory>
     requires { AreGenerators generators.now }
-    ensures { IfOk result (λ found. AfterParent IsChecked lattice generators.now (finding_of found)) }
+    ensures { IfOk result (λ found. AfterParent (AfterSupercell IsChecked []) lattice generators.now (finding_of found)) }
 {
     match Group::close(alloc, generators, lattice) {
-        Ok(group) => Ok(Found::Report(check_report(alloc, &group)?)),
+        Ok(group) => check_group(alloc, group),
         Err(GroupError::TooManyRotations) => Ok(Found::Refused(Refusal::TooManyRotations)),
         Err(GroupError::ExtraTranslation) => Ok(Found::Refused(Refusal::ExtraTranslation)),
         Err(GroupError::NoMemory) => Err(NoMemory),
@@ -61,7 +76,7 @@ fn check_parent(alloc: Global, lattice: Lattice, generators: &[Op]) -> Result<Fo
 
 // The report of the parent group of a file's Hall symbol, or why there is none.
 fn check_hall(alloc: Global, document: &Document) -> Result<Found, NoMemory>
-    ensures { IfOk result (λ found. AfterHall (AfterParent IsChecked) document.now (finding_of found)) }
+    ensures { IfOk result (λ found. AfterHall (AfterParent (AfterSupercell IsChecked [])) document.now (finding_of found)) }
 {
     match hall_symbol::read(document.hall()) {
         Ok(generators) => check_parent(alloc, generators.lattice, generators.ops.as_slice()),
@@ -71,7 +86,7 @@ fn check_hall(alloc: Global, document: &Document) -> Result<Found, NoMemory>
 
 // A file with an irrep is beyond what is built.
 fn check_document(alloc: Global, document: &Document) -> Result<Found, NoMemory>
-    ensures { IfOk result (λ found. AfterIrreps (AfterHall (AfterParent IsChecked)) document.now (finding_of found)) }
+    ensures { IfOk result (λ found. AfterIrreps (AfterHall (AfterParent (AfterSupercell IsChecked []))) document.now (finding_of found)) }
 {
     if document.irreps().is_empty() {
         check_hall(alloc, document)
@@ -83,7 +98,7 @@ fn check_document(alloc: Global, document: &Document) -> Result<Found, NoMemory>
 // What the definitions say for `check`.
 fn find_parent(alloc: Global, bytes: &[u8]) -> Result<Found, NoMemory>
     requires { length bytes.now ≤ MAX_BYTES }
-    ensures { IfOk result (λ found. AfterText (AfterIrreps (AfterHall (AfterParent IsChecked))) bytes.now (finding_of found)) }
+    ensures { IfOk result (λ found. AfterText (AfterIrreps (AfterHall (AfterParent (AfterSupercell IsChecked [])))) bytes.now (finding_of found)) }
 {
     match Document::read(alloc, bytes) {
         Ok(document) => check_document(alloc, &document),

@@ -20,6 +20,8 @@ pub enum Refusal {
     TooManyRotations,
     /// A word of the symbol is a pure translation outside the lattice.
     ExtraTranslation,
+    /// The order of the group modulo the supercell of the wave vectors, which is past 6,144.
+    TooLargeGroup(u64),
     /// The values of these two operations don't multiply; the first such pair of the irrep.
     NotMultiplying(Name, Op, Op),
 }
@@ -70,6 +72,17 @@ fn line_text(alloc: Global, n: u32, what: &[u8]) -> Result<Text, NoMemory>
     Ok(text)
 }
 
+// The text of a group that is too large.
+fn large_group_text(alloc: Global, order: u64) -> Result<Text, NoMemory>
+    ensures { IfOk result (λ text. text ≡ refusal_text (Refusal.TooLargeGroup order)) }
+{
+    let mut text = Text::new(alloc);
+    text.push(b"group order ")?;
+    text.push_number(order)?;
+    text.push(b" is past 6144")?;
+    Ok(text)
+}
+
 // The text of a refusal.
 fn text_of_refusal(alloc: Global, refusal: &Refusal) -> Result<Text, NoMemory>
     ensures { IfOk result (λ text. text ≡ refusal_text refusal.now) }
@@ -80,6 +93,7 @@ fn text_of_refusal(alloc: Global, refusal: &Refusal) -> Result<Text, NoMemory>
         Refusal::BadHall(n) => line_text(alloc, *n, b": bad Hall symbol"),
         Refusal::TooManyRotations => plain_text(alloc, b"too many rotations"),
         Refusal::ExtraTranslation => plain_text(alloc, b"extra translation"),
+        Refusal::TooLargeGroup(order) => large_group_text(alloc, *order),
         Refusal::NotMultiplying(name, a, b) => not_multiplying_text(alloc, name, *a, *b),
     }
 }
