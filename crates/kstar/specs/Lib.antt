@@ -6,6 +6,7 @@ pub mod Fraction
 pub mod Star
 pub mod Rows
 pub mod PhaseLaws
+pub mod ImageLaws
 pub mod LittleLaws
 pub mod DecisionLaws
 pub mod ArmLaws

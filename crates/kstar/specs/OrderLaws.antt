@@ -12,7 +12,8 @@ use Rattle.space_ops.specs.Pigeonhole.{pigeonhole}
 use Rattle.kstar.specs.WaveVector.{AreEquivalent}
 use Rattle.kstar.specs.WaveVectorLaws.{equivalent-sym, equivalent-trans}
 use Rattle.kstar.specs.Star.{IsListOf, image_at, IsLittle, IsFirstOfArm}
-use Rattle.kstar.specs.LittleLaws.{image-equivalent, image_at-product, back-image, little-identity}
+use Rattle.kstar.specs.ImageLaws.{image-equivalent, image_at-product, back-image}
+use Rattle.kstar.specs.LittleLaws.{little-identity}
 use Rattle.kstar.specs.ArmLaws.{list-injective, arm-some, arm-one}
 
 module _ (p : Parent) (h : IsParentGroup p) (k : Vector ℤ) (by : List ℕ) (arms : IsListOf (length p.ops) (IsFirstOfArm p k) by) where

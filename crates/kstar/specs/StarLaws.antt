@@ -14,7 +14,8 @@ use Rattle.space_ops.specs.GroupLaws.{rotation_group, rotation_group-lawful}
 use Rattle.kstar.specs.WaveVector.{AreEquivalent}
 use Rattle.kstar.specs.Star.{IsListOf, IsLittle, image_at, row_in, WaveStar, IsStarOf, HasFirstArm, AreInequivalent, CoverImages}
 use Rattle.kstar.specs.Subgroup.{IsSubgroup}
-use Rattle.kstar.specs.LittleLaws.{image_at-identity, little-identity, little-product, little-inverse}
+use Rattle.kstar.specs.ImageLaws.{image_at-identity}
+use Rattle.kstar.specs.LittleLaws.{little-identity, little-product, little-inverse}
 use Rattle.kstar.specs.ArmLaws.{arm-some, arm-one}
 use Rattle.kstar.specs.OrderLaws.{little-times_arms}
 

@@ -36,7 +36,8 @@ impl From<NoMemory> for StarError {
     }
 }
 
-/// The star of a wave vector under a group, with its little group.
+/// The star of a wave vector under a group, with its little group: the rotations that leave it
+/// equivalent to itself. Arm 0 is the wave vector itself, by the identity.
 #[derive(Drop)]
 pub struct Star {
     lattice: Lattice,
@@ -58,6 +59,7 @@ impl Model for Star {
     ghost invariant = { IsStar };
 }
 
+/// The star of a row, from all its images.
 fn star_of_rows(
     alloc: Global,
     images: &[[i32; 3]],
@@ -116,8 +118,8 @@ impl Star {
     ghost use Rattle.kstar.specs.Star.{IsStarOf, IsFirstBadPhase, HasFirstArm, AreInequivalent, CoverImages, row_in};
     ghost use Rattle.kstar.specs.Subgroup.{IsSubgroup};
 
-    /// The star of k under the group. Condition: each part of k has a denominator that divides 12,
-    /// and a numerator of at most 24 in absolute value.
+    /// The star of k under the group. Condition: `k.is_wave_vector()`. Errors: the first k.c that is
+    /// no multiple of 1/24, over the centring vectors c; want of memory.
     pub fn new(alloc: Global, group: &Group, k: KVector) -> Result<Star, StarError>
         requires { IsWaveVector k }
         ensures star { IfOk result (λ star. IsStarOf group.now (row_of k) star) }
@@ -154,7 +156,8 @@ impl Star {
         self.by.len()
     }
 
-    /// Arm i, from 0: k R^-1 for its representative, in lowest terms, not reduced into a cell.
+    /// Arm i, from 0: k R^-1 for the rotation R of its representative, in lowest terms, not reduced
+    /// into a cell.
     pub fn arm(&self, i: usize) -> KVector
         requires { i < length self.now.by }
         ensures { IsLowestRow (row_in self.now.arms i) result }
@@ -162,7 +165,7 @@ impl Star {
         wave_vector(self.arms[i])
     }
 
-    /// The number of the representative of arm i.
+    /// The number of the representative of arm i: the first operation that gives an equivalent image.
     pub fn by(&self, i: usize) -> usize
         requires { i < length self.now.by }
         ensures { result ≡ slice_index self.now.by i }

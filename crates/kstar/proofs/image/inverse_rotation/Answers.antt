@@ -1,7 +1,7 @@
 use Rattle.std.proofs.Common.{sym, subst, get_or}
 use Rattle.space_ops.specs.declared.op.Op.{Op}
 use Rattle.space_ops.specs.Op.{seitz_of, identity_op, IsSmallMatrix, IsUnimodular, IsShiftWithin}
-use Rattle.kstar.specs.LittleLaws.{unimodular-at}
+use Rattle.space_ops.specs.GroupLaws.{parent-unimodular}
 use Rattle.kstar.proofs.Columns.{op_near, inverse_rotation, inverse_small}
 use Rattle.kstar.proofs.image.inverse_rotation.Goals as goal
 
@@ -13,7 +13,7 @@ inverse-requires-clause-shift c = subst (λ (o : Op). IsShiftWithin 1000000 o.sh
 
 pub inverse-requires-clause-unimodular : goal.inverse-requires-clause-unimodular
 inverse-requires-clause-unimodular c =
-    subst (λ (o : Op). IsUnimodular (seitz_of o).rot) (sym c.op.ensures) (unimodular-at c.args.group.now c.requires.group c.args.i c.requires.place)
+    subst (λ (o : Op). IsUnimodular (seitz_of o).rot) (sym c.op.ensures) (parent-unimodular c.args.group.now c.requires.group c.args.i c.requires.place)
 
 pub returns-clause-value : goal.returns-clause-value
 returns-clause-value c = inverse_rotation c.op.result c.inverse.result _ c.inverse.ensures.inverse c.op.ensures
