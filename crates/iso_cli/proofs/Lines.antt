@@ -3,6 +3,7 @@ use Rattle.std.proofs.Common.{◌≡◌, ℕ, ◌<◌, ◌≤◌, inl, inr, List
 use Rattle.std.proofs.lemmas.List.{append-nil}
 use Rattle.iso_report.specs.Endings.{Change, Grew, change}
 use Rattle.iso_report.specs.Outcome.{IsOutcome, refused}
+use Rattle.iso_report.specs.Report.{line_of}
 use Rattle.iso_report.specs.declared.job.Job.{Job}
 use Rattle.iso_report.specs.declared.refusal.Refusal.{Refusal}
 use Rattle.iso_cli.specs.declared.status.Status.{Status}
@@ -16,6 +17,10 @@ says_same a b s e said = subst (λ t. Says t s) e said
 pub grew_nothing : (written : Option (List ℕ)) (old new : ℕ) → Grew [] (change written written old new)
 grew_nothing None old new = tt
 grew_nothing (Some held) old new = ap (λ t. Some t) (sym (append-nil held))
+
+-- a refusal's line, where the status is that of refusals
+pub refusal_said : (r : Refusal) (s : Status) (err : Change) → SaysRefusal r s err → s ≡ status.Refused → Says (line_of r) err
+refusal_said r s err said e = subst (λ t. SaysRefusal r t err) e said
 
 -- a refusal of the definitions, said
 pub refused_answer : (job : Job) (s : Status) (bytes : List ℕ) (r : Refusal) (out err : Change) → length bytes ≤ max_bytes → IsOutcome job bytes (refused r) → Grew [] out → SaysRefusal r s err → Answers job bytes s out err

@@ -1,5 +1,8 @@
-use Rattle.iso_cli.proofs.Lines.{says_same, refused_answer}
+use Rattle.iso_cli.proofs.Lines.{says_same, grew_nothing, refused_answer}
 use Rattle.iso_cli.proofs.top.answer.Goals as goal
+
+pub returns-in-Ok-clause-answers : goal.returns-in-Ok-clause-answers
+returns-in-Ok-clause-answers g c = (c.in-Ok.ensures.answer, grew_nothing (g.E.Sink.written c.args.err.now) (g.E.Sink.faults c.args.err.now) (g.E.Sink.faults c.args.err.now))
 
 pub returns-in-Err-Refused-clause-answers : goal.returns-in-Err-Refused-clause-answers
 returns-in-Err-Refused-clause-answers g c =
