@@ -173,7 +173,8 @@ impl Star {
         self.by[i]
     }
 
-    /// The power of z = exp(2 pi i / 24) that is exp(-2 pi i k.t), for a lattice vector t in twelfths.
+    /// The power of z = exp(2 pi i / 24) that is exp(-2 pi i k.t), for t in twelfths. Condition: t is a
+    /// translation of the group's lattice, as `Lattice::contains` tells.
     pub fn power(&self, t: [i32; 3]) -> u8
         requires { IsLatticeVector self.now.lattice (vector_of t) }
         ensures value { result ≡ phase_of self.now.row (vector_of t) }

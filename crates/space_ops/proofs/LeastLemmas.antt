@@ -26,7 +26,7 @@ reduced_twelfth : (z : ℤ) → IsTwelfth (int_rem_euclid z (pos 12))
 reduced_twelfth (pos a) = (omega (arith, ints), omega (arith, ints))
 reduced_twelfth (negsuc a) = (omega (arith, ints), omega (arith, ints))
 
-reduced_dozens : (z : ℤ) → (u : ℤ) × (int_rem_euclid z (pos 12) ≡ z +ℤ (pos 12 *ℤ u))
+pub reduced_dozens : (z : ℤ) → (u : ℤ) × (int_rem_euclid z (pos 12) ≡ z +ℤ (pos 12 *ℤ u))
 reduced_dozens (pos a) = let k : 12 * (a / 12) + a % 12 ≡ a = omega arith in (neg_ℤ (pos (a / 12)), omega (arith, ints, k))
 reduced_dozens (negsuc a) = let k : 12 * (a / 12) + a % 12 ≡ a = omega arith in (pos (suc (a / 12)), omega (arith, ints, k))
 

@@ -8,6 +8,7 @@
 -- parent-keeps: listed rotations take lattice vectors to lattice vectors
 -- place_of ops r, place_of-is, rotation_group ops: the number of a rotation in a list; the group of these numbers
 -- rotation_group-lawful: the numbers of a listed group's rotations are a group
+-- by_bool: a property of one of two numbers, by a test
 use Rattle.std.proofs.Common.{◌≡◌, refl, sym, ap, ◌∙◌, subst, ℕ, zero, suc, ◌<◌, ◌≤◌, inl, inr, Bool, true, false, ℤ, List, [], ◌∷◌, length, cond, arith}
 use Rattle.std.proofs.lemmas.Int.{ints}
 use Rattle.std.proofs.lemmas.Cmp.{lists_total, int_cmp_total, tied_itself}
@@ -133,7 +134,8 @@ has-means r op e = matrix_equal (seitz_of op).rot r (equal (matrix_cmp (seitz_of
   equal Equal e = refl
   equal Greater e = let d : false ≡ true = e in cc
 
-by_bool : (b : Bool) (Q : ℕ → Type 0) (n : ℕ) → (b ≡ true → Q 0) → (b ≡ false → Q n) → Q (cond b 0 n)
+-- one of two numbers, by a test
+pub by_bool : (b : Bool) (Q : ℕ → Type 0) (n : ℕ) → (b ≡ true → Q 0) → (b ≡ false → Q n) → Q (cond b 0 n)
 by_bool true Q n f g = f refl
 by_bool false Q n f g = g refl
 

@@ -5,6 +5,7 @@
 -- edges-lattice: a lattice vector and whole cell edges
 -- differ-refl, differ-sym, differ-trans: translations that differ by a lattice vector
 -- image-lattice: images under a matrix that keeps the centring vectors
+-- below_one, below_two, below_three, below_four: a property of each number below 1, 2, 3 or 4
 use Rattle.std.proofs.Common.{◌≡◌, refl, sym, ap, ◌∙◌, subst, ℕ, zero, suc, ◌<◌, ℤ, pos, negsuc, length, arith}
 use Rattle.std.proofs.lemmas.Int.{ints}
 use Rattle.space_ops.specs.declared.lattice.Lattice.{Lattice}
@@ -20,19 +21,19 @@ vector : {lattice : Lattice} {v : Vector ℤ} (i : ℕ) → i < length (centring
     → v ≡ vector_sum whole (centring_at lattice i) (cell_edges (record { x = x; y = y; z = z })) → IsLatticeVector lattice v
 vector i l x y z e = record { centring = i; listed = l; edges = record { x = x; y = y; z = z }; is = e }
 
-below_one : (Q : ℕ → Type 0) → Q 0 → (i : ℕ) → i < 1 → Q i
+pub below_one : (Q : ℕ → Type 0) → Q 0 → (i : ℕ) → i < 1 → Q i
 below_one Q a zero l = a
 below_one Q a (suc i) l = absurd (omega arith)
 
-below_two : (Q : ℕ → Type 0) → Q 0 → Q 1 → (i : ℕ) → i < 2 → Q i
+pub below_two : (Q : ℕ → Type 0) → Q 0 → Q 1 → (i : ℕ) → i < 2 → Q i
 below_two Q a b zero l = a
 below_two Q a b (suc i) l = below_one (λ k. Q (suc k)) b i (omega arith)
 
-below_three : (Q : ℕ → Type 0) → Q 0 → Q 1 → Q 2 → (i : ℕ) → i < 3 → Q i
+pub below_three : (Q : ℕ → Type 0) → Q 0 → Q 1 → Q 2 → (i : ℕ) → i < 3 → Q i
 below_three Q a b c zero l = a
 below_three Q a b c (suc i) l = below_two (λ k. Q (suc k)) b c i (omega arith)
 
-below_four : (Q : ℕ → Type 0) → Q 0 → Q 1 → Q 2 → Q 3 → (i : ℕ) → i < 4 → Q i
+pub below_four : (Q : ℕ → Type 0) → Q 0 → Q 1 → Q 2 → Q 3 → (i : ℕ) → i < 4 → Q i
 below_four Q a b c d zero l = a
 below_four Q a b c d (suc i) l = below_three (λ k. Q (suc k)) b c d i (omega arith)
 

@@ -3,7 +3,7 @@
 -- vector_cmp v w: translations in order of their first coordinates that differ
 -- IsInCell v: each coordinate is from 0 to 11 twelfths
 -- IsLeastShift lattice t r: r is the least translation in the cell that differs from t by a lattice vector
--- reduced_sum t c: t + c with each coordinate reduced to the cell
+-- reduced_vector v, reduced_sum t c: v, and t + c, with each coordinate reduced to the cell
 -- IsLeastOp lattice g op: op has the rotation of g and its least translation
 use Rattle.std.specs.Prelude.{◌≡◌, ℕ, ◌<◌, ℤ, pos, ◌+ℤ◌, ◌≤ℤ◌, List, [], ◌∷◌, length, slice_index_or}
 use Rattle.std.specs.Int.{int_rem_euclid}
@@ -39,6 +39,10 @@ reduced_coordinate t c i = int_rem_euclid (number_at t i +ℤ number_at c i) (po
 
 abbrev pub reduced_sum : List ℤ → List ℤ → List ℤ
 reduced_sum t c = reduced_coordinate t c 0 ∷ reduced_coordinate t c 1 ∷ reduced_coordinate t c 2 ∷ []
+
+-- each coordinate reduced to the cell
+abbrev pub reduced_vector : Vector ℤ → Vector ℤ
+reduced_vector v = record { x = int_rem_euclid v.x (pos 12); y = int_rem_euclid v.y (pos 12); z = int_rem_euclid v.z (pos 12) }
 
 -- the first of two translations in their order
 abbrev pub earlier_of : List ℤ → List ℤ → List ℤ

@@ -1,14 +1,17 @@
 // The parent group of a list of generators and a lattice.
-ghost use Rattle.std.specs.Prelude.{◌≡◌, ℕ, ◌<◌, ◌≤◌, IfOk, IfErr, MatchOption, length, slice_index_or, ⊤};
-ghost use Rattle.space_ops.specs.Op.{matrix_of, identity_op};
-ghost use Rattle.space_ops.specs.Words.{op_at, HasTooManyRotations, HasExtraTranslation};
+ghost use Rattle.std.specs.Prelude.{◌≡◌, ℕ, ◌<◌, ◌≤◌, IfOk, IfErr, MatchOption, true, false, length, slice_index_or, ⊤};
+ghost use Rattle.space_ops.specs.Op.{matrix_of, identity_op, vector_of};
+ghost use Rattle.space_ops.specs.Words.{op_at, vector_difference, IsLatticeVector, HasTooManyRotations, HasExtraTranslation};
+ghost use Rattle.space_ops.specs.LeastShift.{IsInCell};
 
 use crate::closing::closed_ops;
 use crate::find::place_of;
 use crate::generators::are_generators;
 use crate::lattice::Lattice;
+use crate::least_shift::reduced_shift;
 use crate::op::Op;
 use crate::order::sort_after_first;
+use crate::shift::{negative_shift, shift_sum};
 use arrayvec::ArrayVec;
 use iso_text::NoMemory;
 use std::alloc::Global;
@@ -54,8 +57,8 @@ impl Model for Group {
 
 impl Group {
     ghost use Rattle.std.specs.Prelude.{◌≡◌, ℕ, ◌<◌, ◌≤◌, IfOk, IfErr, MatchOption, true, false, length, slice_index_or};
-    ghost use Rattle.space_ops.specs.Op.{matrix_of, identity_op};
-    ghost use Rattle.space_ops.specs.Words.{op_at, HasTooManyRotations, HasExtraTranslation};
+    ghost use Rattle.space_ops.specs.Op.{matrix_of, identity_op, seitz_of};
+    ghost use Rattle.space_ops.specs.Words.{op_at, IsWord, HasTooManyRotations, HasExtraTranslation};
     ghost use Rattle.space_ops.specs.Group.{AreGenerators, IsParentGroup, IsCauseOf};
 
     /// The group of the generators and the lattice. Condition: at most five generators, with
@@ -130,6 +133,19 @@ impl Group {
         place_of(&self.ops, rot)
     }
 
+    /// Whether an operation belongs to the group: its rotation is listed, and its translation differs
+    /// from the listed one by a lattice translation.
+    pub fn contains(&self, op: Op) -> bool
+        ensures yes { result ≡ true → IsWord self.now.generators self.now.lattice (seitz_of op) }
+        ensures no { result ≡ false → IsWord self.now.generators self.now.lattice (seitz_of op) → ⊥ }
+    {
+        let lattice = self.lattice;
+        match self.index_of(op.rot) {
+            Some(i) => differ_by_translation(op.shift, self.op(i).shift, lattice),
+            None => false,
+        }
+    }
+
     /// The lattice that `close` was given.
     pub fn lattice(&self) -> Lattice
         ensures { result ≡ self.now.lattice }
@@ -143,6 +159,15 @@ impl Group {
     {
         self.generators.as_slice()
     }
+}
+
+/// Whether the first translation is the second, from 0 to 11 twelfths, and a lattice translation.
+fn differ_by_translation(s: [i32; 3], t: [i32; 3], lattice: Lattice) -> bool
+    requires { IsInCell (vector_of t) }
+    ensures yes { result ≡ true → IsLatticeVector lattice (vector_difference (vector_of s) (vector_of t)) }
+    ensures no { result ≡ false → IsLatticeVector lattice (vector_difference (vector_of s) (vector_of t)) → ⊥ }
+{
+    lattice.contains(shift_sum(reduced_shift(s), negative_shift(t)))
 }
 
 fn copied(generators: &[Op]) -> ArrayVec<Op, 5>

@@ -1,7 +1,11 @@
 // The lattices of the Hall symbols.
-ghost use Rattle.std.specs.Prelude.{◌≡◌, ◌<◌, length};
+ghost use Rattle.std.specs.Prelude.{◌≡◌, ◌<◌, length, true, false};
 ghost use Rattle.space_ops.specs.Lattice.{centrings_of};
+ghost use Rattle.space_ops.specs.Op.{vector_of};
+ghost use Rattle.space_ops.specs.Words.{IsLatticeVector};
 
+use crate::find::is_same_shift;
+use crate::least_shift::{least_shift, reduced_shift};
 use arrayvec::ArrayVec;
 
 /// A lattice by its letter in a Hall symbol: primitive, one face centred, body centred,
@@ -41,5 +45,12 @@ impl Lattice {
             }
         }
         vectors
+    }
+    /// Whether a translation in twelfths is one of the lattice: a centring vector and whole cell edges.
+    pub fn contains(self, shift: [i32; 3]) -> bool
+        ensures yes { result ≡ true → IsLatticeVector self (vector_of shift) }
+        ensures no { result ≡ false → IsLatticeVector self (vector_of shift) → ⊥ }
+    {
+        is_same_shift(least_shift(reduced_shift(shift), self), [0, 0, 0])
     }
 }

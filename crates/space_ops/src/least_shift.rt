@@ -5,7 +5,7 @@ ghost use Rattle.std.specs.Ordering.{int_cmp};
 ghost use Rattle.std.specs.Cmp.Lexicographic.{slice_cmp};
 ghost use Rattle.space_ops.specs.Op.{number_at, vector_of, shift_of, seitz_of, IsWithin, IsShiftWithin};
 ghost use Rattle.space_ops.specs.Lattice.{centrings_of};
-ghost use Rattle.space_ops.specs.LeastShift.{IsLeastOp, HasRows, IsShaped, IsFirstOfReduced, IsLeastArray, earlier_of, reduced_sum as sum_reduced};
+ghost use Rattle.space_ops.specs.LeastShift.{IsLeastOp, HasRows, IsShaped, IsFirstOfReduced, IsLeastArray, earlier_of, reduced_vector, reduced_sum as sum_reduced};
 
 use crate::lattice::Lattice;
 use crate::op::{Op, TWELFTHS};
@@ -34,6 +34,14 @@ fn reduced_sum(t: [i32; 3], c: [i32; 3]) -> [i32; 3]
         reduced_pair(t[1], c[1]),
         reduced_pair(t[2], c[2]),
     ]
+}
+
+/// The translation with each coordinate reduced to the cell, from 0 to 11 twelfths.
+pub fn reduced_shift(t: [i32; 3]) -> [i32; 3]
+    ensures value { result ≡ shift_of (reduced_vector (vector_of t)) }
+    ensures near { IsShiftWithin 12 result }
+{
+    [reduced(t[0]), reduced(t[1]), reduced(t[2])]
 }
 
 fn earlier(a: [i32; 3], b: [i32; 3]) -> [i32; 3]

@@ -149,3 +149,31 @@ fn tells_an_extra_translation(rt: HostRuntime) {
     let turned = closed(&rt, rt.alloc(), &[op(FOUR_Z, [0, 0, 0])], Lattice::A);
     assert!(&rt; matches!(turned, Err(GroupError::ExtraTranslation)));
 }
+
+#[test]
+fn tells_lattice_translations(rt: HostRuntime) {
+    let cases = [
+        (Lattice::P, [12, -24, 0], true),
+        (Lattice::P, [6, 6, 0], false),
+        (Lattice::F, [18, -6, 12], true),
+        (Lattice::F, [6, 6, 6], false),
+        (Lattice::I, [6, 6, 6], true),
+        (Lattice::R, [-4, 4, 4], true),
+        (Lattice::R, [4, 4, 8], false),
+        (Lattice::R, [i32::MIN, 8, 8], true),
+    ];
+    for (lattice, shift, want) in cases {
+        assert!(&rt; lattice.contains(shift) == want);
+    }
+}
+
+#[test]
+fn tells_members(rt: HostRuntime) {
+    let screw = op(FOUR_Z, [0, 0, 3]);
+    let group = closed(&rt, rt.alloc(), &[screw], Lattice::I).expect(&rt, "a group");
+    assert!(&rt; group.contains(op(FOUR_Z, [6, -6, 21])));
+    assert!(&rt; group.contains(op(TWO_Z, [0, 24, -6])));
+    assert!(&rt; !group.contains(op(TWO_Z, [0, 0, 0])));
+    assert!(&rt; !group.contains(op(FOUR_Z, [i32::MAX, 0, 3])));
+    assert!(&rt; !group.contains(op(TWO_X, [0, 0, 0])));
+}

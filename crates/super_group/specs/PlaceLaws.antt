@@ -5,7 +5,7 @@
 -- place_among-at: the place of a listed translation is its own
 -- translations-rising, translations-apart: the translations inside a supercell are such a list
 -- zero-first: their first is the zero vector
-use Rattle.std.proofs.Common.{◌≡◌, refl, sym, ap, ◌∙◌, ℕ, zero, suc, ◌<◌, inl, inr, Bool, true, false, ℤ, pos, ◌≤ℤ◌, ◌<ℤ◌, List, [], ◌∷◌, length, cond, arith}
+use Rattle.std.proofs.Common.{◌≡◌, refl, sym, ap, ◌∙◌, ℕ, zero, suc, ◌<◌, inl, inr, Bool, true, false, ℤ, pos, ◌≤ℤ◌, ◌<ℤ◌, List, [], ◌∷◌, length, arith}
 use Rattle.std.proofs.lemmas.Int.{ints}
 use Rattle.std.proofs.lemmas.Bool.{cases_order}
 use Rattle.std.proofs.lemmas.Cmp.{tied_itself, int_ranked}
@@ -16,6 +16,7 @@ use Rattle.space_ops.specs.declared.lattice.Lattice.{Lattice}
 use Rattle.space_ops.specs.Whole.{whole}
 use Rattle.space_ops.specs.Matrix.{Vector, zero_vector}
 use Rattle.space_ops.specs.Op.{vector_of}
+use Rattle.space_ops.specs.GroupLaws.{by_bool}
 use Rattle.space_ops.specs.LatticeLaws.{zero-lattice}
 use Rattle.space_ops.specs.LeastShift.{vector_cmp}
 use Rattle.space_ops.specs.LeastShiftLaws.{vector_cmp-total, vector_cmp-equal}
@@ -36,10 +37,6 @@ at-means v t e = vector_cmp-equal (vector_of t) v (equal (vector_cmp (vector_of 
   equal Less e = let d : false ≡ true = e in cc
   equal Equal e = refl
   equal Greater e = let d : false ≡ true = e in cc
-
-by_bool : (b : Bool) (Q : ℕ → Type 0) (n : ℕ) → (b ≡ true → Q 0) → (b ≡ false → Q n) → Q (cond b 0 n)
-by_bool true Q n f g = f refl
-by_bool false Q n f g = g refl
 
 later : (t : List ℤ) (ts : List (List ℤ)) (v : Vector ℤ) → IsAmong (t ∷ ts) v → is_at v t ≡ false → IsAmong ts v
 later t ts v (zero, l, e) f = let d : true ≡ false = sym (at-itself v t e) ∙ f in cc

@@ -3,7 +3,7 @@
 -- centrings-apart: centring vectors with different numbers differ
 -- centrings-in_cell: their coordinates are from 0 to 11
 -- lattice_numbers-unique: a lattice vector has one centring and one triple of edges
-use Rattle.std.proofs.Common.{◌≡◌, refl, sym, ap, ◌∙◌, ℕ, zero, suc, ◌<◌, ◌≤◌, ◌+◌, ◌*◌, ◌/◌, ℤ, pos, ◌+ℤ◌, ◌*ℤ◌, unsigned_abs, length, arith}
+use Rattle.std.proofs.Common.{◌≡◌, refl, sym, ap, ◌∙◌, ℕ, ◌<◌, ◌≤◌, ◌+◌, ◌*◌, ◌/◌, ℤ, pos, ◌+ℤ◌, ◌*ℤ◌, unsigned_abs, length, arith}
 use Rattle.std.proofs.lemmas.Int.{ints}
 use Rattle.space_ops.specs.declared.lattice.Lattice.{Lattice}
 use Rattle.space_ops.specs.declared.lattice.Lattice.TheVariants.{P, A, B, C, I, R, F}
@@ -11,25 +11,10 @@ use Rattle.space_ops.specs.Whole.{whole}
 use Rattle.space_ops.specs.Matrix.{Vector, vector_sum}
 use Rattle.space_ops.specs.MatrixLaws.{same_vector}
 use Rattle.space_ops.specs.Lattice.{centrings_of}
+use Rattle.space_ops.specs.LatticeLaws.{below_one, below_two, below_three, below_four}
 use Rattle.space_ops.specs.Words.{centring_at, cell_edges, vector_difference}
 use Rattle.space_ops.specs.LeastShift.{IsTwelfth, IsInCell}
 use Rattle.space_ops.specs.LeastShiftLaws.{reduced-unique}
-
-below_one : (Q : ℕ → Type 0) → Q 0 → (i : ℕ) → i < 1 → Q i
-below_one Q a zero l = a
-below_one Q a (suc i) l = absurd (omega arith)
-
-below_two : (Q : ℕ → Type 0) → Q 0 → Q 1 → (i : ℕ) → i < 2 → Q i
-below_two Q a b zero l = a
-below_two Q a b (suc i) l = below_one (λ k. Q (suc k)) b i (omega arith)
-
-below_three : (Q : ℕ → Type 0) → Q 0 → Q 1 → Q 2 → (i : ℕ) → i < 3 → Q i
-below_three Q a b c zero l = a
-below_three Q a b c (suc i) l = below_two (λ k. Q (suc k)) b c i (omega arith)
-
-below_four : (Q : ℕ → Type 0) → Q 0 → Q 1 → Q 2 → Q 3 → (i : ℕ) → i < 4 → Q i
-below_four Q a b c d zero l = a
-below_four Q a b c d (suc i) l = below_three (λ k. Q (suc k)) b c d i (omega arith)
 
 -- the number of a centring vector, from its coordinates
 abbrev number_in : Lattice → Vector ℤ → ℕ

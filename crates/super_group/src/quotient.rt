@@ -154,7 +154,8 @@ impl Quotient {
         Op { rot, shift }
     }
 
-    /// The number of the element that a member of the parent group is. Condition: it is a member.
+    /// The number of the element that a member of the parent group is. Condition: it is a member, as
+    /// `Group::contains` tells.
     pub fn number(&self, op: Op) -> usize
         requires { IsMember self.now (seitz_of op) }
         ensures number { result ≡ number_of self.now (seitz_of op) }
