@@ -5,7 +5,7 @@ use Rattle.std.proofs.Math.Seq.{get_or-append_seam}
 use Rattle.space_ops.specs.Op.{vector_of, IsShiftWithin}
 use Rattle.space_ops.specs.Matrix.{Vector}
 use Rattle.space_ops.specs.Group.{Parent}
-use Rattle.kstar.specs.Star.{IsListOf, image_at, row_in}
+use Rattle.kstar.specs.Star.{IsRisingListOf, image_at, row_in}
 use Rattle.kstar.specs.Rows.{AreNear, AreAllImages, AreRowsAt}
 
 length_more : {A : Type 0} (xs : List A) (x : A) → length (xs ++ x ∷ []) ≡ length xs + 1
@@ -28,7 +28,7 @@ near-more rows rows' r e v h =
     (λ i b. subst (IsShiftWithin 10368) (sym (get_or_append_left rows (r ∷ []) [] i b)) (h i b))
     (subst (IsShiftWithin 10368) (sym (get_or-append_seam rows r [] [])) v) i (subst (λ m. i < m) (length_more rows r) b))
 
-pub list-none : (P : ℕ → Type 0) → IsListOf 0 P []
+pub list-none : (P : ℕ → Type 0) → IsRisingListOf 0 P []
 list-none P = record {
   below = λ i l. absurd (omega arith);
   has = λ i l. absurd (omega arith);
@@ -36,7 +36,7 @@ list-none P = record {
   every = λ r l p. absurd (omega arith);
 }
 
-pub list-skip : (n : ℕ) (P : ℕ → Type 0) (xs : List ℕ) → IsListOf n P xs → (P n → ⊥) → IsListOf (n + 1) P xs
+pub list-skip : (n : ℕ) (P : ℕ → Type 0) (xs : List ℕ) → IsRisingListOf n P xs → (P n → ⊥) → IsRisingListOf (n + 1) P xs
 list-skip n P xs h other = record {
   below = λ i l. let k : get_or xs i 0 < n = h.below i l in omega arith;
   has = h.has;
@@ -44,7 +44,7 @@ list-skip n P xs h other = record {
   every = below_more (λ r. P r → (i : ℕ) × (i < length xs) × (get_or xs i 0 ≡ r)) n h.every (λ p. absurd (other p));
 }
 
-pub list-more : (n : ℕ) (P : ℕ → Type 0) (xs : List ℕ) → IsListOf n P xs → P n → IsListOf (n + 1) P (xs ++ n ∷ [])
+pub list-more : (n : ℕ) (P : ℕ → Type 0) (xs : List ℕ) → IsRisingListOf n P xs → P n → IsRisingListOf (n + 1) P (xs ++ n ∷ [])
 list-more n P xs h this =
     let ys = xs ++ n ∷ [] in
     let len : length ys ≡ length xs + 1 = length_more xs n in
@@ -70,10 +70,10 @@ list-more n P xs h this =
     }
 
 -- by a test of the next number
-pub list-grows : (b : Bool) (n : ℕ) (P : ℕ → Type 0) (xs ys : List ℕ) → IsListOf n P xs → (b ≡ true → ys ≡ xs ++ n ∷ []) → (b ≡ false → ys ≡ xs)
-    → (b ≡ true → P n) → (b ≡ false → P n → ⊥) → IsListOf (n + 1) P ys
-list-grows true n P xs ys h e f p q = subst (IsListOf (n + 1) P) (sym (e refl)) (list-more n P xs h (p refl))
-list-grows false n P xs ys h e f p q = subst (IsListOf (n + 1) P) (sym (f refl)) (list-skip n P xs h (q refl))
+pub list-grows : (b : Bool) (n : ℕ) (P : ℕ → Type 0) (xs ys : List ℕ) → IsRisingListOf n P xs → (b ≡ true → ys ≡ xs ++ n ∷ []) → (b ≡ false → ys ≡ xs)
+    → (b ≡ true → P n) → (b ≡ false → P n → ⊥) → IsRisingListOf (n + 1) P ys
+list-grows true n P xs ys h e f p q = subst (IsRisingListOf (n + 1) P) (sym (e refl)) (list-more n P xs h (p refl))
+list-grows false n P xs ys h e f p q = subst (IsRisingListOf (n + 1) P) (sym (f refl)) (list-skip n P xs h (q refl))
 
 pub rows-more : (rows : List (List ℤ)) (numbers : List ℕ) (n : ℕ) (chosen chosen' : List (List ℤ)) (r : List ℤ) → chosen' ≡ chosen ++ r ∷ [] → r ≡ get_or rows (get_or numbers n 0) []
     → AreRowsAt rows numbers n chosen → AreRowsAt rows numbers (n + 1) chosen'

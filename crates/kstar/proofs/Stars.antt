@@ -5,7 +5,7 @@ use Rattle.space_ops.specs.Op.{vector_of}
 use Rattle.space_ops.specs.Matrix.{Vector}
 use Rattle.space_ops.specs.Group.{Parent}
 use Rattle.kstar.specs.WaveVector.{AreEquivalent}
-use Rattle.kstar.specs.Star.{IsListOf, image_at, IsLittle, IsFirstOfArm, WaveStar, row_in, AreImages, IsStarOf}
+use Rattle.kstar.specs.Star.{IsRisingListOf, image_at, IsLittle, IsFirstOfArm, WaveStar, row_in, AreImages, IsStarOf}
 use Rattle.kstar.specs.Rows.{AreAllImages, AreRowsAt, IsStarOfRows}
 
 -- what follows of each value, follows of an answer
@@ -14,7 +14,7 @@ ok_same (Ok x) f h = f x h
 ok_same (Err e) f h = h
 
 -- lists of numbers with the same property
-list-same : (n : ℕ) (P Q : ℕ → Type 0) (xs : List ℕ) → ((r : ℕ) → r < n → P r → Q r) → ((r : ℕ) → r < n → Q r → P r) → IsListOf n P xs → IsListOf n Q xs
+list-same : (n : ℕ) (P Q : ℕ → Type 0) (xs : List ℕ) → ((r : ℕ) → r < n → P r → Q r) → ((r : ℕ) → r < n → Q r → P r) → IsRisingListOf n P xs → IsRisingListOf n Q xs
 list-same n P Q xs f g h = record {
   below = h.below;
   has = λ i l. f (get_or xs i 0) (h.below i l) (h.has i l);
@@ -23,23 +23,23 @@ list-same n P Q xs f g h = record {
 }
 
 module _ (p : Parent) (k : Vector ℤ) (images : List (List ℤ)) (all : AreAllImages p k (length p.ops) images) where
-  little-is : (lattice : Lattice) (xs : List ℕ) → lattice ≡ p.lattice → IsListOf (length images) (λ r. AreEquivalent lattice (row_in images r) k) xs → IsListOf (length p.ops) (IsLittle p k) xs
+  little-is : (lattice : Lattice) (xs : List ℕ) → lattice ≡ p.lattice → IsRisingListOf (length images) (λ r. AreEquivalent lattice (row_in images r) k) xs → IsRisingListOf (length p.ops) (IsLittle p k) xs
   little-is lattice xs e h =
       let same : (r : ℕ) → r < length p.ops → AreEquivalent lattice (row_in images r) k ≡ IsLittle p k r = λ r b i. AreEquivalent (e i) (all.image r b i) k in
       list-same (length p.ops) _ _ xs (λ r b. subst (λ (A : Type 0). A) (same r b)) (λ r b. subst (λ (A : Type 0). A) (sym (same r b)))
-      (subst (λ n. IsListOf n (λ r. AreEquivalent lattice (row_in images r) k) xs) all.count h)
+      (subst (λ n. IsRisingListOf n (λ r. AreEquivalent lattice (row_in images r) k) xs) all.count h)
 
   firsts-are : (lattice : Lattice) (xs : List ℕ) → lattice ≡ p.lattice
-      → IsListOf (length images) (λ r. (s : ℕ) → s < r → AreEquivalent lattice (row_in images s) (row_in images r) → ⊥) xs → IsListOf (length p.ops) (IsFirstOfArm p k) xs
+      → IsRisingListOf (length images) (λ r. (s : ℕ) → s < r → AreEquivalent lattice (row_in images s) (row_in images r) → ⊥) xs → IsRisingListOf (length p.ops) (IsFirstOfArm p k) xs
   firsts-are lattice xs e h =
       let same : (r : ℕ) → r < length p.ops → (s : ℕ) → s < r → AreEquivalent lattice (row_in images s) (row_in images r) ≡ AreEquivalent p.lattice (image_at p k s) (image_at p k r) =
       λ r b s c i. AreEquivalent (e i) (all.image s (omega arith) i) (all.image r b i) in
       list-same (length p.ops) _ _ xs
       (λ r b none s c w. none s c (subst (λ (A : Type 0). A) (sym (same r b s c)) w))
       (λ r b none s c w. none s c (subst (λ (A : Type 0). A) (same r b s c) w))
-      (subst (λ n. IsListOf n (λ r. (s : ℕ) → s < r → AreEquivalent lattice (row_in images s) (row_in images r) → ⊥) xs) all.count h)
+      (subst (λ n. IsRisingListOf n (λ r. (s : ℕ) → s < r → AreEquivalent lattice (row_in images s) (row_in images r) → ⊥) xs) all.count h)
 
-  arms-are : (by : List ℕ) (arms : List (List ℤ)) → IsListOf (length p.ops) (IsFirstOfArm p k) by → AreRowsAt images by (length by) arms → AreImages p k by arms
+  arms-are : (by : List ℕ) (arms : List (List ℤ)) → IsRisingListOf (length p.ops) (IsFirstOfArm p k) by → AreRowsAt images by (length by) arms → AreImages p k by arms
   arms-are by arms h rows = record {
     count = rows.count;
     image = λ i l. ap vector_of (rows.row i l) ∙ all.image (get_or by i 0) (h.below i l);

@@ -10,13 +10,13 @@ use Rattle.space_ops.specs.Words.{vector_difference}
 use Rattle.space_ops.specs.Group.{Parent, IsParentGroup}
 use Rattle.kstar.specs.WaveVector.{AreEquivalent}
 use Rattle.kstar.specs.WaveVectorLaws.{equivalent-refl, equivalent-sym, equivalent-trans}
-use Rattle.kstar.specs.Star.{IsListOf, image_at, IsFirstOfArm}
+use Rattle.kstar.specs.Star.{IsRisingListOf, image_at, IsFirstOfArm}
 use Rattle.kstar.specs.DecisionLaws.{whole-decide, first_of_some}
 
 same_number : (i j : ℕ) → (i < j → ⊥) → (j < i → ⊥) → i ≡ j
 same_number i j h k = grind arith
 
-pub list-injective : (n : ℕ) (P : ℕ → Type 0) (xs : List ℕ) → IsListOf n P xs → (i j : ℕ) → i < length xs → j < length xs → get_or xs i 0 ≡ get_or xs j 0 → i ≡ j
+pub list-injective : (n : ℕ) (P : ℕ → Type 0) (xs : List ℕ) → IsRisingListOf n P xs → (i j : ℕ) → i < length xs → j < length xs → get_or xs i 0 ≡ get_or xs j 0 → i ≡ j
 list-injective n P xs h i j l m e =
     same_number i j (λ b. let k : get_or xs i 0 < get_or xs j 0 = h.rising i j b m in absurd (omega (arith, e, k)))
     (λ b. let k : get_or xs j 0 < get_or xs i 0 = h.rising j i b l in absurd (omega (arith, e, k)))
@@ -34,7 +34,7 @@ module _ (p : Parent) (h : IsParentGroup p) (k : Vector ℤ) where
         w.2.0,
       )
 
-  module _ (by : List ℕ) (arms : IsListOf (length p.ops) (IsFirstOfArm p k) by) where
+  module _ (by : List ℕ) (arms : IsRisingListOf (length p.ops) (IsFirstOfArm p k) by) where
     -- each image is equivalent to an arm
     pub arm-some : (r : ℕ) → r < length p.ops → (i : ℕ) × (i < length by) × AreEquivalent p.lattice (image_at p k (get_or by i 0)) (image_at p k r)
     arm-some r l =

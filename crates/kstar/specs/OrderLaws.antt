@@ -11,13 +11,13 @@ use Rattle.space_ops.specs.GroupLaws.{rotation_group, rotation_group-lawful}
 use Rattle.space_ops.specs.Pigeonhole.{pigeonhole}
 use Rattle.kstar.specs.WaveVector.{AreEquivalent}
 use Rattle.kstar.specs.WaveVectorLaws.{equivalent-sym, equivalent-trans}
-use Rattle.kstar.specs.Star.{IsListOf, image_at, IsLittle, IsFirstOfArm}
+use Rattle.kstar.specs.Star.{IsRisingListOf, image_at, IsLittle, IsFirstOfArm}
 use Rattle.kstar.specs.ImageLaws.{image-equivalent, image_at-product, back-image}
 use Rattle.kstar.specs.LittleLaws.{little-identity}
 use Rattle.kstar.specs.ArmLaws.{list-injective, arm-some, arm-one}
 
-module _ (p : Parent) (h : IsParentGroup p) (k : Vector ℤ) (by : List ℕ) (arms : IsListOf (length p.ops) (IsFirstOfArm p k) by) where
-  module _ (little : List ℕ) (members : IsListOf (length p.ops) (IsLittle p k) little) where
+module _ (p : Parent) (h : IsParentGroup p) (k : Vector ℤ) (by : List ℕ) (arms : IsRisingListOf (length p.ops) (IsFirstOfArm p k) by) where
+  module _ (little : List ℕ) (members : IsRisingListOf (length p.ops) (IsLittle p k) little) where
     abbrev g : Group
     g = rotation_group p.ops
 

@@ -10,7 +10,7 @@ use Rattle.space_ops.specs.Matrix.{Vector}
 use Rattle.space_ops.specs.Op.{IsShiftWithin}
 use Rattle.space_ops.specs.Group.{Parent}
 use Rattle.kstar.specs.WaveVector.{AreEquivalent}
-use Rattle.kstar.specs.Star.{IsListOf, image_at, row_in, WaveStar}
+use Rattle.kstar.specs.Star.{IsRisingListOf, image_at, row_in, WaveStar}
 
 -- each entry is at most 10,368 in absolute value
 abbrev pub AreNear : List (List ℤ) → Type 0
@@ -30,6 +30,6 @@ pub record AreRowsAt (rows : List (List ℤ)) (numbers : List ℕ) (n : ℕ) (ch
 pub record IsStarOfRows (rows : List (List ℤ)) (cell : Lattice) (k : Vector ℤ) (s : WaveStar) : Type 0 where
   pub lattice : s.lattice ≡ cell
   pub row : s.row ≡ k
-  pub little : IsListOf (length rows) (λ r. AreEquivalent cell (row_in rows r) k) s.little
-  pub by : IsListOf (length rows) (λ r. (t : ℕ) → t < r → AreEquivalent cell (row_in rows t) (row_in rows r) → ⊥) s.by
+  pub little : IsRisingListOf (length rows) (λ r. AreEquivalent cell (row_in rows r) k) s.little
+  pub by : IsRisingListOf (length rows) (λ r. (t : ℕ) → t < r → AreEquivalent cell (row_in rows t) (row_in rows r) → ⊥) s.by
   pub arms : AreRowsAt rows s.by (length s.by) s.arms

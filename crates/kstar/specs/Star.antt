@@ -1,6 +1,6 @@
 -- The little group and the star of a wave vector.
 --
--- IsListOf n P xs: xs lists the numbers below n with the property P, rising
+-- IsRisingListOf n P xs: xs lists the numbers below n with the property P, rising
 -- image_at p k r: the image of k under operation r of the list
 -- IsLittle p k r: operation r leaves k equivalent to itself
 -- IsFirstOfArm p k r: no operation before r gives an image of k that is equivalent to that of r
@@ -24,7 +24,7 @@ use Rattle.space_ops.specs.Group.{Parent}
 use Rattle.kstar.specs.WaveVector.{row_value, image_of, AreEquivalent, IsInLittleGroup, HasPhase}
 
 -- the numbers below n with the property P, rising
-pub record IsListOf (n : ℕ) (P : ℕ → Type 0) (xs : List ℕ) : Type 0 where
+pub record IsRisingListOf (n : ℕ) (P : ℕ → Type 0) (xs : List ℕ) : Type 0 where
   pub below : (i : ℕ) → i < length xs → slice_index xs i < n
   pub has : (i : ℕ) → i < length xs → P (slice_index xs i)
   pub rising : (i j : ℕ) → i < j → j < length xs → slice_index xs i < slice_index xs j
@@ -63,8 +63,8 @@ pub record AreImages (p : Parent) (k : Vector ℤ) (by : List ℕ) (rows : List 
 pub record IsStarOf (p : Parent) (k : Vector ℤ) (s : WaveStar) : Type 0 where
   pub lattice : s.lattice ≡ p.lattice
   pub row : s.row ≡ k
-  pub little : IsListOf (length p.ops) (IsLittle p k) s.little
-  pub by : IsListOf (length p.ops) (IsFirstOfArm p k) s.by
+  pub little : IsRisingListOf (length p.ops) (IsLittle p k) s.little
+  pub by : IsRisingListOf (length p.ops) (IsFirstOfArm p k) s.by
   pub arms : AreImages p k s.by s.arms
 
 -- arm 0 is k itself, by operation 0

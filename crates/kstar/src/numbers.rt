@@ -2,7 +2,7 @@
 ghost use Rattle.std.specs.Prelude.{◌≡◌, ℕ, ◌<◌, IfOk, true, false, length, slice_index, slice_index_or, [], ◌∷◌, ◌++◌};
 ghost use Rattle.space_ops.specs.Op.{IsShiftWithin, vector_of};
 ghost use Rattle.kstar.specs.WaveVector.{AreEquivalent};
-ghost use Rattle.kstar.specs.Star.{IsListOf, row_in};
+ghost use Rattle.kstar.specs.Star.{IsRisingListOf, row_in};
 ghost use Rattle.kstar.specs.Rows.{AreNear};
 
 use crate::equivalence::are_equivalent;
@@ -33,7 +33,7 @@ pub fn little_of(
 ) -> Result<Vec<usize>, NoMemory>
     requires images { AreNear images.now }
     requires row { IsShiftWithin 288 row }
-    ensures { IfOk result (λ little. IsListOf (length images.now) (λ r. AreEquivalent lattice (row_in images.now r) (vector_of row)) little.items) }
+    ensures { IfOk result (λ little. IsRisingListOf (length images.now) (λ r. AreEquivalent lattice (row_in images.now r) (vector_of row)) little.items) }
 {
     let mut little: Vec<usize> = Vec::new(alloc);
     for r in 0..images.len() {
@@ -65,7 +65,7 @@ pub fn firsts_of(
     lattice: Lattice,
 ) -> Result<Vec<usize>, NoMemory>
     requires { AreNear images.now }
-    ensures { IfOk result (λ firsts. IsListOf (length images.now) (λ r. (s : ℕ) → s < r → AreEquivalent lattice (row_in images.now s) (row_in images.now r) → ⊥) firsts.items) }
+    ensures { IfOk result (λ firsts. IsRisingListOf (length images.now) (λ r. (s : ℕ) → s < r → AreEquivalent lattice (row_in images.now s) (row_in images.now r) → ⊥) firsts.items) }
 {
     let mut firsts: Vec<usize> = Vec::new(alloc);
     for r in 0..images.len() {
