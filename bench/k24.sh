@@ -1,6 +1,6 @@
 #!/bin/sh
 # Counts the instructions of a sum and of a product of two values of K24, with valgrind.
-# Run it after `rt test cyclo24`, in the top folder: it measures the test binary that this left.
+# Run it in the top folder, after `rt test` in crates/cyclo24: it measures the test binary that this left.
 # Each measured test forms 1,000 sums and 1,000 products.
 set -eu
 binary=crates/cyclo24/out/cyclo24_tests

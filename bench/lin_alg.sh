@@ -1,6 +1,6 @@
 #!/bin/sh
 # Counts the instructions of insertions into a form over K24, with valgrind, and the operations of
-# K24 that they need. Run it after `rt test lin_alg`, in the top folder: it measures the test binary
+# K24 that they need. Run it in the top folder, after `rt test` in crates/lin_alg: it measures the test binary
 # that this left. The rest is what isn't spent in the functions of cyclo24. The compiler writes two
 # operations into the loops, so that the rest holds them too: a test for zero of an entry (14
 # instructions and its jump, with one `ptest`, by which they are counted), and of a difference what
