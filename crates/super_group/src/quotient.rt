@@ -69,6 +69,7 @@ impl Quotient {
         ensures quotient { IfOk result (λ quotient. IsQuotient quotient) }
         ensures small { IfOk result (λ _. order_in group d ≤ 6144) }
         ensures large { (order : ℕ) → result ≡ Err (QuotientError.TooLargeGroup order) → (order ≡ order_in group d) × (6144 < order) }
+        ensures memory { result ≡ Err QuotientError.NoMemory → order_in group d ≤ 6144 }
     {
         let order = order_in(&group, d);
         if order > MAX_ORDER {
