@@ -13,10 +13,10 @@ use Rattle.std.specs.Int.RustNames.{unsigned_abs}
 use Rattle.std.proofs.lemmas.Int.{ints, unsigned_abs-mul}
 use Rattle.std.proofs.Math.Nat.{eq-one_of_dvd-one, mul-div_cancel', dvd_trans, dvd_refl, pos_of_dvd_of_pos}
 use borrow.Author.Differences.{up, down, product_is, same_in, same_out}
-use Rattle.cyclo24.specs.Ring.{Ops}
+use Rattle.algebra.specs.Ring.{Ops}
 use Rattle.cyclo24.specs.Gcd.{gcd, common, quotient, lowest_terms, all_zero}
 use Rattle.cyclo24.specs.BoolLaws.{and_left, and_right}
-use Rattle.cyclo24.specs.Solve.{zero_mul}
+use Rattle.algebra.specs.SolveLaws.{zero_mul}
 use Rattle.cyclo24.specs.GcdLaws.{gcd_is, gcd_scale}
 use Rattle.cyclo24.specs.Fraction.{IsContent}
 use Rattle.cyclo24.specs.FractionLaws.{lower}

@@ -6,7 +6,7 @@
 -- re8, im8: four times the real and the imaginary part, in 1, r2, r3, r6
 -- real8: a real number a0 + a1 r2 + a2 r3 + a3 r6, in powers of z
 -- power8: a power of z
-use Rattle.cyclo24.specs.Ring.{Ops}
+use Rattle.algebra.specs.Ring.{Ops}
 use Rattle.cyclo24.specs.Four.{Four}
 
 pub record Eight (A : Type 0) : Type 0 where

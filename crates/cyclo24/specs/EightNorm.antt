@@ -7,11 +7,13 @@
 use Rattle.std.proofs.Common.{◌≡◌, ℕ, zero, suc, ◌*◌, ◌<◌, refl, sym, ap, ◌∙◌, arith, ℤ, pos, negsuc, ◌+ℤ◌, ◌*ℤ◌, List, [], ◌∷◌, length, get_or}
 use Rattle.std.specs.Int.RustNames.{unsigned_abs}
 use Rattle.std.proofs.lemmas.Int.{ints}
-use Rattle.cyclo24.specs.Ring.{Ops, IsRing}
-use Rattle.cyclo24.specs.WholeRing.{whole, whole_ring}
+use Rattle.algebra.specs.Ring.{Ops, IsRing}
+use Rattle.algebra.specs.Whole.{whole}
+use Rattle.algebra.specs.WholeLaws.{whole_ring}
 use Rattle.cyclo24.specs.Numerators.{Numerators, IsNumerators}
 use Rattle.cyclo24.specs.CommonLaws.{cancel_z}
-use Rattle.cyclo24.specs.Solve.{mul_neg, mul_zero, exps}
+use Rattle.algebra.specs.SolveLaws.{mul_neg, mul_zero}
+use Rattle.algebra.specs.Solve.{exps}
 use Rattle.cyclo24.specs.Four.{Four, add4, mul4, neg4, num4, norm4, adj4}
 use Rattle.cyclo24.specs.FourLaws.{same4, mul4_adj, solve4, vars}
 use Rattle.cyclo24.specs.FourNorm.{norm_zero, zero_from_abs, abs_square}

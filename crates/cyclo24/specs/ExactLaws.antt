@@ -6,7 +6,7 @@ use Rattle.std.proofs.Common.{◌≡◌, ℕ, zero, suc, ◌*◌, ◌/◌, ◌<�
 use Rattle.std.specs.Int.RustNames.{unsigned_abs}
 use Rattle.std.proofs.Math.Nat.{mul-div_cancel'}
 use Rattle.std.proofs.lemmas.Int.{ints}
-use Rattle.cyclo24.specs.Ring.{Ops}
+use Rattle.algebra.specs.Ring.{Ops}
 use Rattle.cyclo24.specs.ExactField.{Exact}
 use Rattle.cyclo24.specs.Gcd.{gcd, common, lowest_terms}
 use Rattle.cyclo24.specs.GcdLaws.{gcd_is}

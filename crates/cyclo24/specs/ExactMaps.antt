@@ -6,7 +6,7 @@
 -- exact_map-map: one map after another; exact_map-same, exact_map-itself, plus-exact_map: equal maps
 use Rattle.std.proofs.Common.{◌≡◌, ℕ, ◌*◌, ◌<◌, refl, sym, ap, ◌∙◌}
 use Rattle.std.specs.Int.RustNames.{unsigned_abs}
-use Rattle.cyclo24.specs.Ring.{Ops}
+use Rattle.algebra.specs.Ring.{Ops}
 use Rattle.cyclo24.specs.ExactField.{Exact}
 use Rattle.cyclo24.specs.Fraction.{Fraction}
 use Rattle.cyclo24.specs.FractionLaws.{lower, sum, times, minus, one_positive, mul_positive}

@@ -4,8 +4,9 @@
 -- quotient-is: x / d times d is x
 use Rattle.std.proofs.Common.{◌≡◌, ℕ, ◌<◌, refl, sym, ap, ◌∙◌, pos, neg_ℤ, [], ◌∷◌, ◌++◌, map}
 use Rattle.std.specs.Int.RustNames.{unsigned_abs}
-use Rattle.cyclo24.specs.Ring.{Ops}
-use Rattle.cyclo24.specs.Solve.{V, K, Mul, solve, at}
+use Rattle.algebra.specs.Ring.{Ops}
+use Rattle.algebra.specs.Solve.{V, K, Mul, at}
+use Rattle.algebra.specs.SolveLaws.{solve}
 use Rattle.cyclo24.specs.FieldOn.{ones}
 use Rattle.cyclo24.specs.ExactField.{Exact}
 use Rattle.cyclo24.specs.Gcd.{lowest_terms}

@@ -9,7 +9,7 @@
 use Rattle.std.specs.Prelude.{ℕ, zero, suc, Bool, ◌||◌}
 use Rattle.cyclo24.specs.FieldOn.{FieldOn}
 use Rattle.cyclo24.specs.ExactField.{Exact, ExactField}
-use Rattle.cyclo24.specs.WholeRing.{whole}
+use Rattle.algebra.specs.Whole.{whole}
 use Rattle.cyclo24.specs.Listed.{is_exact, exact_cmp}
 use Rattle.cyclo24.specs.ListedLaws.{exact_laws, exact_ones, exact_cmp_total, exact_cmp-Equal}
 use Rattle.cyclo24.specs.ExactMaps.{exact_map, exact_member}

@@ -4,7 +4,7 @@
 -- mul4, add4, neg4, num4: the operations, and a number of the ring as such a number
 -- norm4 o a, adj4 o a: a (adj4 a) is the number norm4 a
 -- four_ops o: the operations of the ring of such numbers
-use Rattle.cyclo24.specs.Ring.{Ops}
+use Rattle.algebra.specs.Ring.{Ops}
 
 pub record Four (A : Type 0) : Type 0 where
   pub c0 : A

@@ -6,9 +6,10 @@
 -- mul4_adj: a (adj4 a) is the norm
 -- scaled: multiples, coefficient by coefficient
 use Rattle.std.proofs.Common.{◌≡◌, ℕ, suc, refl, sym, [], ◌∷◌, true}
-use Rattle.cyclo24.specs.Ring.{Ops, IsRing}
+use Rattle.algebra.specs.Ring.{Ops, IsRing}
 use Rattle.cyclo24.specs.Four.{Four, mul4, add4, neg4, num4, norm4, adj4, four_ops}
-use Rattle.cyclo24.specs.Solve.{Exp, V, K, Mul, exps, solve, same, value, at}
+use Rattle.algebra.specs.Solve.{Exp, V, K, Mul, exps, same, value, at}
+use Rattle.algebra.specs.SolveLaws.{solve}
 
 abbrev pub vars : ℕ → Four Exp
 vars i = record { c0 = V i; c1 = V (suc i); c2 = V (suc (suc i)); c3 = V (suc (suc (suc i))) }

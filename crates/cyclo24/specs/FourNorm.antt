@@ -6,9 +6,10 @@
 use Rattle.std.proofs.Common.{◌≡◌, suc, ◌+◌, ◌*◌, refl, sym, ap, ◌∙◌, arith, ℤ, pos, negsuc, ◌+ℤ◌, ◌*ℤ◌, neg_ℤ, List, [], ◌∷◌, length, get_or}
 use Rattle.std.specs.Int.RustNames.{unsigned_abs}
 use Rattle.std.proofs.lemmas.Int.{ints, unsigned_abs-mul}
-use Rattle.cyclo24.specs.Ring.{Ops}
-use Rattle.cyclo24.specs.Solve.{mul_neg}
-use Rattle.cyclo24.specs.WholeRing.{whole, whole_ring}
+use Rattle.algebra.specs.Ring.{Ops}
+use Rattle.algebra.specs.SolveLaws.{mul_neg}
+use Rattle.algebra.specs.Whole.{whole}
+use Rattle.algebra.specs.WholeLaws.{whole_ring}
 use Rattle.cyclo24.specs.Four.{Four, mul4, num4, neg4, norm4, adj4, norm_u, norm_v, four_ops}
 use Rattle.cyclo24.specs.FourLaws.{four_ring, same4, mul4_adj, scaled}
 use Rattle.cyclo24.specs.Roots.{root2, root3}

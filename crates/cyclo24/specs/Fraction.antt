@@ -4,7 +4,7 @@
 -- Fraction c: a top and a positive low without a common divisor
 use Rattle.std.specs.Prelude.{◌≡◌, ◌≢◌, ℕ, ◌*◌, ◌<◌, Bool, true, false}
 use Prim.Native.Nat.{◌∣◌}
-use Rattle.cyclo24.specs.Ring.{Ops, IsRing}
+use Rattle.algebra.specs.Ring.{Ops, IsRing}
 
 -- the greatest number that divides a member and a number, and what is left of a member
 pub record Content {R : Type 0} (o : Ops R) : Type 0 where

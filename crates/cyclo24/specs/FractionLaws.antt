@@ -10,11 +10,12 @@ use Rattle.std.proofs.Math.Nat.{mul-div_cancel', mul_comm}
 use mathlib.Core.HLevel.{is_prop→PathP}
 use native.Mathlib.Nat.{ℕ_set}
 use Rattle.std.specs.Coded.{le_prop}
-use Rattle.cyclo24.specs.Ring.{Ops}
+use Rattle.algebra.specs.Ring.{Ops}
 use Rattle.cyclo24.specs.FieldOn.{FieldOn, ones}
 use Rattle.cyclo24.specs.Fraction.{Content, IsContent, Fraction}
-use Rattle.cyclo24.specs.Solve.{Exp, V, K, Neg, Add, Mul, by_test, solve, num_mul, at}
-use Rattle.cyclo24.specs.Solve as Rings
+use Rattle.algebra.specs.Solve.{Exp, V, K, Neg, Add, Mul, at}
+use Rattle.algebra.specs.SolveLaws.{by_test, solve, num_mul}
+use Rattle.algebra.specs.SolveLaws as Rings
 
 -- variables of expressions
 abbrev d' : Exp

@@ -5,10 +5,11 @@
 -- mapped-sum, mapped-times, mapped-mapped: of sums, products and of another map
 use Rattle.std.proofs.Common.{◌≡◌, ℕ, ◌*◌, ◌<◌, refl, sym, ap, ◌∙◌, arith, [], ◌∷◌}
 use Rattle.std.proofs.Math.Nat.{mul_assoc}
-use Rattle.cyclo24.specs.Ring.{Ops}
+use Rattle.algebra.specs.Ring.{Ops}
 use Rattle.cyclo24.specs.Fraction.{Content, IsContent, Fraction}
 use Rattle.cyclo24.specs.FractionLaws.{lower, Is, is_self, is_lower, same_from_is, mul_positive, is_sum, is_times, sum, times, minus, is_minus, nought, one_positive}
-use Rattle.cyclo24.specs.Solve.{V, K, Add, Mul, solve, num_mul, at}
+use Rattle.algebra.specs.Solve.{V, K, Add, Mul, at}
+use Rattle.algebra.specs.SolveLaws.{solve, num_mul}
 
 -- a map that respects sums and multiples
 pub record IsLinear {R S : Type 0} (o : Ops R) (o' : Ops S) (φ : R → S) : Type 0 where

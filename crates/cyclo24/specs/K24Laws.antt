@@ -9,8 +9,9 @@ use Rattle.std.proofs.lemmas.Int.{ints, unsigned_abs-mul}
 use Rattle.cyclo24.specs.declared.whole.Whole.{Whole}
 use Rattle.cyclo24.specs.declared.fraction4.Fraction4.{Fraction4}
 use Rattle.cyclo24.specs.Gcd.{gcd, quotient, lowest_terms, all_zero}
-use Rattle.cyclo24.specs.WholeRing.{whole, whole_ring}
-use Rattle.cyclo24.specs.Solve.{mul_neg, by_test}
+use Rattle.algebra.specs.Whole.{whole}
+use Rattle.algebra.specs.WholeLaws.{whole_ring}
+use Rattle.algebra.specs.SolveLaws.{mul_neg, by_test}
 use Rattle.cyclo24.specs.GcdLaws.{gcd_is}
 use Rattle.cyclo24.specs.Written4Laws.{quotient_positive}
 use Rattle.cyclo24.specs.Four.{Four, mul4, norm4, adj4, num4}

@@ -12,7 +12,7 @@ use Rattle.cyclo24.specs.declared.whole.Whole.{Whole}
 use Rattle.cyclo24.specs.declared.fraction4.Fraction4.{Fraction4}
 use Rattle.cyclo24.specs.Gcd.{lowest_terms}
 use Rattle.cyclo24.specs.Four.{Four, num4}
-use Rattle.cyclo24.specs.WholeRing.{whole}
+use Rattle.algebra.specs.Whole.{whole}
 use Rattle.cyclo24.specs.FourNorm.{whole4, four, four_is, list4}
 use Rattle.cyclo24.specs.FractionLaws.{lower}
 use Rattle.cyclo24.specs.Numerators.{content_of}

@@ -21,9 +21,6 @@ pub mod Terms
 pub mod TermsLaws
 pub mod TermsValues
 pub mod BoolLaws
-pub mod Ring
-pub mod Solve
-pub mod WholeRing
 pub mod Gcd
 pub mod GcdLaws
 pub mod Roots
@@ -41,6 +38,7 @@ pub mod NumeralLaws
 pub mod Listed
 pub mod ListedLaws
 pub mod ExactLaws
+pub mod ValueLaws
 pub mod Checked
 pub mod CheckedLaws
 pub mod Four

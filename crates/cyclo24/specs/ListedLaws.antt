@@ -17,7 +17,7 @@ use Rattle.std.specs.Cmp.{IsTotalOrder, then_total, on_total, int_cmp_total, sig
 use Rattle.std.specs.Cmp.Lexicographic.{slice_cmp, lists_total}
 use Rattle.std.specs.Ordering.{ordering_then, int_cmp, is_eq}
 use Rattle.cyclo24.specs.BoolLaws.{and_left, and_right, and_both}
-use Rattle.cyclo24.specs.Ring.{Ops}
+use Rattle.algebra.specs.Ring.{Ops}
 use Rattle.cyclo24.specs.ExactField.{Exact}
 use Rattle.cyclo24.specs.FieldOn.{FieldOn, ones}
 use Rattle.cyclo24.specs.Gcd.{common, lowest_terms, all_zero}

@@ -4,8 +4,9 @@
 -- of-plus, of-times: sums and products of whole numbers
 use Rattle.std.proofs.Common.{◌≡◌, ℕ, suc, zero, ◌+◌, ◌*◌, refl, sym, ◌∙◌, ap, arith, ℤ, pos, negsuc, neg_ℤ, ◌+ℤ◌, ◌*ℤ◌, [], ◌∷◌}
 use Rattle.std.proofs.lemmas.Int.{ints}
-use Rattle.cyclo24.specs.Ring.{IsRing}
-use Rattle.cyclo24.specs.Solve.{V, K, Add, Mul, Neg, solve, num_add, num_mul, at}
+use Rattle.algebra.specs.Ring.{IsRing}
+use Rattle.algebra.specs.Solve.{V, K, Add, Mul, Neg, at}
+use Rattle.algebra.specs.SolveLaws.{solve, num_add, num_mul}
 use Rattle.cyclo24.specs.FieldOn.{FieldOn, ones}
 use Rattle.cyclo24.specs.Numerals.{of_whole, ring_of}
 use Rattle.cyclo24.specs.FieldLaws.{nought-plus, unit-times}

@@ -3,7 +3,7 @@
 -- of_whole f z: the whole number z in the field f
 -- ring_of f: the ring of the field, for `solve`
 use Rattle.std.specs.Prelude.{suc, ℤ, pos, negsuc}
-use Rattle.cyclo24.specs.Ring.{Ops}
+use Rattle.algebra.specs.Ring.{Ops}
 use Rattle.cyclo24.specs.FieldOn.{FieldOn, ones}
 
 -- z ones

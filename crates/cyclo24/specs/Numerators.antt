@@ -4,7 +4,7 @@
 -- Numerators o: members of the ring o as lists of whole numbers, and IsNumerators its laws
 -- content_of m: what divides a member and a number is what divides each number of its list
 use Rattle.std.specs.Prelude.{◌≡◌, ◌≢◌, ℕ, ◌<◌, ℤ, pos, ◌*ℤ◌, ◌+ℤ◌, neg_ℤ, List, [], ◌∷◌, map, length}
-use Rattle.cyclo24.specs.Ring.{Ops, IsRing}
+use Rattle.algebra.specs.Ring.{Ops, IsRing}
 use Rattle.cyclo24.specs.Gcd.{common, quotient, all_zero}
 use Rattle.cyclo24.specs.Fraction.{Content}
 

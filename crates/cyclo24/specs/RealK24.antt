@@ -9,7 +9,8 @@ use Rattle.cyclo24.specs.FieldOn.{FieldOn}
 use Rattle.cyclo24.specs.Sums.{total, IsReal}
 use Rattle.cyclo24.specs.Fraction.{Fraction}
 use Rattle.cyclo24.specs.Gcd.{gcd}
-use Rattle.cyclo24.specs.WholeRing.{whole, whole_ring}
+use Rattle.algebra.specs.Whole.{whole}
+use Rattle.algebra.specs.WholeLaws.{whole_ring}
 use Rattle.cyclo24.specs.Numerators.{content_of}
 use Rattle.cyclo24.specs.CommonLaws.{content_of_is}
 use Rattle.cyclo24.specs.Carry.{carried-real}

@@ -9,7 +9,7 @@ use Rattle.iso_text.specs.declared.numbers.Term.{Term}
 use Rattle.iso_text.specs.declared.numbers.Unit.{Unit as TermUnit}
 use Rattle.iso_text.specs.declared.numbers.Unit.TheVariants.{One, Z, I, R2, R3, R6}
 use Rattle.cyclo24.specs.declared.fraction8.Fraction8.{Fraction8}
-use Rattle.cyclo24.specs.WholeRing.{whole}
+use Rattle.algebra.specs.Whole.{whole}
 use Rattle.cyclo24.specs.Numerals.{of_whole}
 use Rattle.cyclo24.specs.Eight.{Eight, add8, num8, real8}
 use Rattle.cyclo24.specs.ExactZ24.{ExactZ24, z24_laws, power, imaginary, from_real}

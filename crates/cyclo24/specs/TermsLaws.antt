@@ -17,7 +17,7 @@ use Rattle.cyclo24.specs.declared.whole.Whole.{Whole}
 use Rattle.cyclo24.specs.declared.fraction8.Fraction8.{Fraction8}
 use Rattle.cyclo24.specs.Eight.{Eight, real8, add8, num8}
 use Rattle.cyclo24.specs.EightNorm.{list8, whole8_ring}
-use Rattle.cyclo24.specs.WholeRing.{whole}
+use Rattle.algebra.specs.Whole.{whole}
 use Rattle.cyclo24.specs.Terms.{IsTerm, unit8, factor_of, term8, terms8, row8, scale8, AreAtMost}
 
 small_abs : (k : ℤ) → FitsSigned w8 k → unsigned_abs k ≤ 128

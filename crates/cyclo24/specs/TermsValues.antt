@@ -12,10 +12,12 @@ use Rattle.iso_text.specs.declared.numbers.Unit.TheVariants.{One, Z, I, R2, R3, 
 use Rattle.cyclo24.specs.FieldOn.{FieldOn, ones}
 use Rattle.cyclo24.specs.FieldLaws.{times-nought, unit-times}
 use Rattle.cyclo24.specs.Gcd.{lowest_terms}
-use Rattle.cyclo24.specs.WholeRing.{whole, whole_ring}
+use Rattle.algebra.specs.Whole.{whole}
+use Rattle.algebra.specs.WholeLaws.{whole_ring}
 use Rattle.cyclo24.specs.Numerals.{of_whole, ring_of}
 use Rattle.cyclo24.specs.NumeralLaws.{ring_of_is, of-times}
-use Rattle.cyclo24.specs.Solve.{V, Mul, solve, at}
+use Rattle.algebra.specs.Solve.{V, Mul, at}
+use Rattle.algebra.specs.SolveLaws.{solve}
 use Rattle.cyclo24.specs.Four.{Four}
 use Rattle.cyclo24.specs.FourNorm.{whole4, four, four_is}
 use Rattle.cyclo24.specs.Eight.{Eight, add8, num8, real8}

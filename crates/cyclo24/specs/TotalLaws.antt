@@ -1,28 +1,27 @@
--- What finite sums obey.
+-- What finite sums in a field obey.
 --
+-- sums-monoid: the sum of a field is that of a commutative monoid
 -- total-same: equal terms; total-nought: zero terms; total-plus: sums of terms; total-times, times-total: multiples
 -- total-swap: the order of two sums
-use Rattle.std.proofs.Common.{◌≡◌, ℕ, suc, zero, ◌<◌, refl, sym, ◌∙◌, ap, arith}
+use Rattle.std.proofs.Common.{◌≡◌, ℕ, suc, zero, ◌<◌, sym, ◌∙◌, ap}
+use Rattle.algebra.specs.Sums.{IsCommutativeMonoid}
+use Rattle.algebra.specs.SumLaws as sums
 use Rattle.cyclo24.specs.FieldOn.{FieldOn}
-use Rattle.cyclo24.specs.FieldLaws.{plus-swap, times-nought}
+use Rattle.cyclo24.specs.FieldLaws.{times-nought}
 use Rattle.cyclo24.specs.Sums.{total}
 
 module _ {K : Type 0} (f : FieldOn K) where
+  pub sums-monoid : IsCommutativeMonoid f.nought f.plus
+  sums-monoid = record { plus_comm = f.plus_comm; plus_assoc = f.plus_assoc; plus-nought = f.plus-nought }
+
   pub total-same : (n : ℕ) (g h : ℕ → K) → ((k : ℕ) → k < n → g k ≡ h k) → total f n g ≡ total f n h
-  total-same zero g h e = refl
-  total-same (suc n) g h e =
-      let t : total f n g ≡ total f n h = total-same n g h (λ k l. e k (omega arith)) in
-      let l : g n ≡ h n = e n (omega arith) in
-      ap (λ x. f.plus x (g n)) t ∙ ap (f.plus (total f n h)) l
+  total-same = sums.total-same f.nought f.plus
 
   pub total-nought : (n : ℕ) → total f n (λ _. f.nought) ≡ f.nought
-  total-nought zero = refl
-  total-nought (suc n) = f.plus-nought (total f n (λ _. f.nought)) ∙ total-nought n
+  total-nought = sums.total-nought f.nought f.plus sums-monoid
 
   pub total-plus : (n : ℕ) (g h : ℕ → K) → total f n (λ k. f.plus (g k) (h k)) ≡ f.plus (total f n g) (total f n h)
-  total-plus zero g h = sym (f.plus-nought f.nought)
-  total-plus (suc n) g h =
-      ap (λ x. f.plus x (f.plus (g n) (h n))) (total-plus n g h) ∙ plus-swap f (total f n g) (total f n h) (g n) (h n)
+  total-plus = sums.total-plus f.nought f.plus sums-monoid
 
   pub total-times : (n : ℕ) (c : K) (g : ℕ → K) → total f n (λ k. f.times c (g k)) ≡ f.times c (total f n g)
   total-times zero c g = sym (times-nought f c)
@@ -33,6 +32,4 @@ module _ {K : Type 0} (f : FieldOn K) where
       total-same n (λ k. f.times (g k) c) (λ k. f.times c (g k)) (λ k l. f.times_comm (g k) c) ∙ total-times n c g ∙ f.times_comm c (total f n g)
 
   pub total-swap : (n m : ℕ) (g : ℕ → ℕ → K) → total f n (λ i. total f m (λ j. g i j)) ≡ total f m (λ j. total f n (λ i. g i j))
-  total-swap zero m g = sym (total-nought m)
-  total-swap (suc n) m g =
-      ap (λ x. f.plus x (total f m (λ j. g n j))) (total-swap n m g) ∙ sym (total-plus m (λ j. total f n (λ i. g i j)) (λ j. g n j))
+  total-swap = sums.total-swap f.nought f.plus sums-monoid

@@ -7,7 +7,7 @@ use Rattle.std.proofs.lemmas.Int.{ints}
 use Rattle.cyclo24.specs.declared.whole.Whole.{Whole}
 use Rattle.cyclo24.specs.declared.whole.Product.{Product}
 use Rattle.cyclo24.specs.declared.fraction4.Fraction4.{Fraction4}
-use Rattle.cyclo24.specs.WholeRing.{whole}
+use Rattle.algebra.specs.Whole.{whole}
 use Rattle.cyclo24.specs.Four.{Four, mul4}
 use Rattle.cyclo24.specs.Four as Fours
 use Rattle.cyclo24.specs.FourNorm.{list4}

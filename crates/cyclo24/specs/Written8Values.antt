@@ -8,7 +8,8 @@ use Rattle.cyclo24.specs.declared.whole.Whole.{Whole}
 use Rattle.cyclo24.specs.declared.fraction4.Fraction4.{Fraction4}
 use Rattle.cyclo24.specs.declared.fraction8.Fraction8.{Fraction8}
 use Rattle.cyclo24.specs.declared.fraction8.High.{High}
-use Rattle.cyclo24.specs.WholeRing.{whole, add_zeroℤ}
+use Rattle.algebra.specs.Whole.{whole}
+use Rattle.algebra.specs.WholeLaws.{add_zeroℤ}
 use Rattle.cyclo24.specs.FourNorm.{list4}
 use Rattle.cyclo24.specs.Eight.{mul8, conj8, re8, im8, real8, s0, s1, s2, s3, s4, s5, s6, s7, s8, s9, s10, s11, s12, s13, s14}
 use Rattle.cyclo24.specs.EightNorm.{list8}

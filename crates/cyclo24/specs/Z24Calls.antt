@@ -12,7 +12,7 @@ use Rattle.cyclo24.specs.declared.fraction4.Fraction4.{Fraction4}
 use Rattle.cyclo24.specs.declared.fraction8.Fraction8.{Fraction8}
 use Rattle.cyclo24.specs.Gcd.{gcd, quotient, lowest_terms, all_zero}
 use Rattle.cyclo24.specs.GcdLaws.{gcd_is}
-use Rattle.cyclo24.specs.WholeRing.{whole}
+use Rattle.algebra.specs.Whole.{whole}
 use Rattle.cyclo24.specs.Written4Laws.{quotient_positive}
 use Rattle.cyclo24.specs.FourNorm.{whole4, four, four_is, list4}
 use Rattle.cyclo24.specs.Eight.{mul8, conj8, re8, im8, real8}

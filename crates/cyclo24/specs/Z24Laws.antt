@@ -6,10 +6,11 @@
 -- from_real-..: real numbers are a subfield
 -- times-conj: x times its conjugate is the sum of the squares of its parts; inverse_is: the inverse by the conjugate
 use Rattle.std.proofs.Common.{◌≡◌, refl, sym, ap, ◌∙◌, ℤ, pos}
-use Rattle.cyclo24.specs.Ring.{Ops}
+use Rattle.algebra.specs.Ring.{Ops}
 use Rattle.cyclo24.specs.FieldOn.{FieldOn}
 use Rattle.cyclo24.specs.ExactField.{Exact}
-use Rattle.cyclo24.specs.WholeRing.{whole, whole_ring}
+use Rattle.algebra.specs.Whole.{whole}
+use Rattle.algebra.specs.WholeLaws.{whole_ring}
 use Rattle.cyclo24.specs.Listed.{is_exact}
 use Rattle.cyclo24.specs.ListedLaws.{exact_laws}
 use Rattle.cyclo24.specs.FractionMaps.{IsLinear}

@@ -8,7 +8,8 @@
 use Rattle.std.proofs.Common.{◌≡◌, refl, sym, ap, ◌∙◌, [], ◌∷◌, Bool, true, false}
 use Rattle.cyclo24.specs.FieldOn.{FieldOn}
 use Rattle.cyclo24.specs.ExactField.{Exact}
-use Rattle.cyclo24.specs.Solve.{V, K, Neg, Add, Mul, solve, at, by_test}
+use Rattle.algebra.specs.Solve.{V, K, Neg, Add, Mul, at}
+use Rattle.algebra.specs.SolveLaws.{solve, by_test}
 use Rattle.cyclo24.specs.Numerals.{ring_of}
 use Rattle.cyclo24.specs.NumeralLaws.{ring_of_is}
 use Rattle.cyclo24.specs.FieldLaws.{neg-unique, neg-plus, nought-plus, times-nought, unit-times}

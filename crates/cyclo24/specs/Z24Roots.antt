@@ -9,7 +9,7 @@ use Rattle.cyclo24.specs.ExactField.{Exact}
 use Rattle.cyclo24.specs.FieldLaws.{unit-times}
 use Rattle.cyclo24.specs.Gcd.{gcd, lowest_terms}
 use Rattle.cyclo24.specs.RootsK24.{r2, r3, r6}
-use Rattle.cyclo24.specs.WholeRing.{whole}
+use Rattle.algebra.specs.Whole.{whole}
 use Rattle.cyclo24.specs.Listed.{is_exact}
 use Rattle.cyclo24.specs.ListedLaws.{same_exact}
 use Rattle.cyclo24.specs.ExactMaps.{exact_member, exact_member-plus, exact_member-times, exact_member-neg, exact_member-one, exact_map-member, exact_member-is}

@@ -4,7 +4,8 @@ ghost use Rattle.cyclo24.specs.ExactField.{Value};
 ghost use Rattle.cyclo24.specs.ExactK24.{k24_laws};
 ghost use Rattle.cyclo24.specs.Numerals.{of_whole};
 ghost use Rattle.cyclo24.specs.RootsK24.{r2, r3, r6};
-ghost use Rattle.cyclo24.specs.Sums.{total, IsRenumbering, IsReal};
+ghost use Rattle.cyclo24.specs.Sums.{total, IsReal};
+ghost use Rattle.algebra.specs.Sums.{IsRenumbering};
 
 use crate::Field;
 

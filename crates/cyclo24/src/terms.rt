@@ -2,7 +2,7 @@
 ghost use Rattle.std.specs.Prelude.{◌≡◌, ◌<◌, ◌≤◌, ◌+◌, ◌*◌, ◌^◌, ℕ, pos, length, get_or, ◌+ℤ◌, ◌*ℤ◌};
 ghost use Rattle.std.specs.List.{All};
 ghost use Rattle.std.specs.Int.RustNames.{unsigned_abs};
-ghost use Rattle.cyclo24.specs.WholeRing.{whole};
+ghost use Rattle.algebra.specs.Whole.{whole};
 ghost use Rattle.cyclo24.specs.Eight.{add8, num8};
 ghost use Rattle.cyclo24.specs.EightNorm.{list8};
 ghost use Rattle.cyclo24.specs.Written8.{eight_of};

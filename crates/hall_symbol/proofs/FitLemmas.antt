@@ -13,16 +13,13 @@ use Rattle.hall_symbol.specs.declared.rotation.Rotation.{Rotation}
 use Rattle.hall_symbol.specs.declared.rotation.Rotation.TheVariants.{One, TwoZ, ThreeZ, FourZ, SixZ, TwoX, TwoY, FourX, FourY, TwoPrimeAfterZ, TwoDoublePrimeAfterZ, TwoPrimeAfterX, TwoDoublePrimeAfterX, TwoPrimeAfterY, TwoDoublePrimeAfterY, ThreeStar}
 use Rattle.hall_symbol.specs.Grammar.{IsHallSymbol}
 use Rattle.space_ops.specs.Group.{AreGenerators}
-use Rattle.space_ops.specs.LeastShift.{IsTwelfth, IsInCell}
+use Rattle.space_ops.specs.LeastShift.{IsInCell}
+use Rattle.space_ops.specs.LeastShiftLaws.{twelfth-rem}
 use Rattle.hall_symbol.specs.Operations.{op_at_origin, inversion_of, opposite_row, signed}
 use Rattle.hall_symbol.specs.Spelling.{part_of}
 use Rattle.hall_symbol.proofs.PartListGrammar.{length-generators_of}
 use Rattle.hall_symbol.specs.RotationLaws.{IsUnimodular-signed}
 use Rattle.hall_symbol.specs.Rotations.{rotation_rows}
-
-IsTwelfth-rem : (z : ℤ) → IsTwelfth (int_rem_euclid z (pos 12))
-IsTwelfth-rem (pos a) = let h : a % 12 < 12 = omega arith in (omega (arith, ints), omega (arith, ints))
-IsTwelfth-rem (negsuc a) = (omega (arith, ints), omega (arith, ints))
 
 IsSmallRotation-rows : (r : Rotation) → IsSmallRotation (rotation_rows r)
 IsSmallRotation-rows One = search rules
@@ -80,5 +77,5 @@ AreGenerators-IsHallSymbol text l ops h = record {
   few = length-IsHallSymbol text l ops h;
   small = op_at-IsHallSymbol (λ op. IsSmallMatrix (matrix_of op.rot)) text l ops h (λ g. IsSmallRotation-signed g.negated g.rotation);
   unimodular = op_at-IsHallSymbol (λ op. IsUnimodular (matrix_of op.rot)) text l ops h (λ g. IsUnimodular-signed g.negated g.rotation);
-  in_cell = op_at-IsHallSymbol (λ op. IsInCell (vector_of op.shift)) text l ops h (λ g. (IsTwelfth-rem _, IsTwelfth-rem _, IsTwelfth-rem _));
+  in_cell = op_at-IsHallSymbol (λ op. IsInCell (vector_of op.shift)) text l ops h (λ g. (twelfth-rem _, twelfth-rem _, twelfth-rem _));
 }

@@ -1,44 +1,21 @@
 -- The sign and the lattice that are read of a word are those that it spells.
-use Rattle.std.proofs.Common.{◌≡◌, ℕ, Bool, true, false, List, [], ◌∷◌, ◌++◌, ◌==◌, Some, refl, ap, ◌∙◌, inl, inr}
-use Rattle.std.proofs.lemmas.Bool.{eqb-true}
+use Rattle.std.proofs.Common.{◌≡◌, ℕ, Bool, true, false, List, [], ◌∷◌, ◌++◌, Some, refl, ap, ◌∙◌}
 use Rattle.space_ops.specs.declared.lattice.Lattice.{Lattice}
 use Rattle.space_ops.specs.declared.lattice.Lattice.TheVariants.{P, A, B, C, I, R, F}
-use Rattle.hall_symbol.specs.Grammar.{lattice_byte, head_text}
+use Rattle.space_ops.specs.Lattice.{letter_of}
+use Rattle.space_ops.specs.LetterLaws.{lattice-letter}
+use Rattle.hall_symbol.specs.Grammar.{head_text}
 use Rattle.hall_symbol.specs.Spelling.{sign_text}
 use Rattle.hall_symbol.specs.PartReading.{sign_at}
-use Rattle.hall_symbol.specs.SymbolReading.{lattice_of_byte, lattice_in, head_at}
-use Rattle.hall_symbol.proofs.Cases.{bind-some, chosen, some-value}
+use Rattle.hall_symbol.specs.SymbolReading.{lattice_in, head_at}
+use Rattle.hall_symbol.proofs.Cases.{bind-some, some-value}
 use Rattle.hall_symbol.proofs.WordsGrammar.{is_word}
 use Rattle.hall_symbol.proofs.PartFronts.{sign_at-split}
 
-pub lattice_of_byte-sound : (c : ℕ) (l : Lattice) → lattice_of_byte c ≡ Some l → c ≡ lattice_byte l
-lattice_of_byte-sound c l h = elim (chosen (c == 80) _ _ _ h) [
-  | inl (e, v) ↦ eqb-true c 80 e ∙ ap lattice_byte (some-value _ _ v)
-  | inr (_, h2) ↦ elim (chosen (c == 65) _ _ _ h2) [
-    | inl (e, v) ↦ eqb-true c 65 e ∙ ap lattice_byte (some-value _ _ v)
-    | inr (_, h3) ↦ elim (chosen (c == 66) _ _ _ h3) [
-      | inl (e, v) ↦ eqb-true c 66 e ∙ ap lattice_byte (some-value _ _ v)
-      | inr (_, h4) ↦ elim (chosen (c == 67) _ _ _ h4) [
-        | inl (e, v) ↦ eqb-true c 67 e ∙ ap lattice_byte (some-value _ _ v)
-        | inr (_, h5) ↦ elim (chosen (c == 73) _ _ _ h5) [
-          | inl (e, v) ↦ eqb-true c 73 e ∙ ap lattice_byte (some-value _ _ v)
-          | inr (_, h6) ↦ elim (chosen (c == 82) _ _ _ h6) [
-            | inl (e, v) ↦ eqb-true c 82 e ∙ ap lattice_byte (some-value _ _ v)
-            | inr (_, h7) ↦ elim (chosen (c == 70) _ _ _ h7) [
-              | inl (e, v) ↦ eqb-true c 70 e ∙ ap lattice_byte (some-value _ _ v)
-              | inr (_, v) ↦ cc v
-            ]
-          ]
-        ]
-      ]
-    ]
-  ]
-]
-
-pub lattice_in-sound : (w : List ℕ) (l : Lattice) → lattice_in w ≡ Some l → w ≡ lattice_byte l ∷ []
+pub lattice_in-sound : (w : List ℕ) (l : Lattice) → lattice_in w ≡ Some l → w ≡ letter_of l ∷ []
 unfolding lattice_in
 lattice_in-sound [] l h = cc h
-lattice_in-sound (c ∷ []) l h = ap (λ b. b ∷ []) (lattice_of_byte-sound c l h)
+lattice_in-sound (c ∷ []) l h = ap (λ b. b ∷ []) (lattice-letter c l h)
 lattice_in-sound (c ∷ d ∷ cs) l h = cc h
 
 pub head_at-sound : (ws : List (List ℕ)) (h : Bool × Lattice × List (List ℕ)) → head_at ws ≡ Some h → ws ≡ head_text h.0 h.1 ∷ h.2

@@ -8,7 +8,7 @@
 use Rattle.std.specs.Prelude.{◌≡◌, ℕ, ◌+◌, ◌*◌, ◌≤◌, ◌<◌, ℤ, pos, neg_ℤ, Bool, true, false, List, [], ◌∷◌, ◌++◌, map, length, Some, ◌⊎◌}
 use Rattle.std.specs.List.{All}
 use Rattle.space_ops.specs.declared.lattice.Lattice.{Lattice}
-use Rattle.space_ops.specs.declared.lattice.Lattice.TheVariants.{P, A, B, C, I, R, F}
+use Rattle.space_ops.specs.Lattice.{letter_of}
 use Rattle.space_ops.specs.declared.op.Op.{Op}
 use Rattle.hall_symbol.specs.declared.generator.Generator.{Generator}
 use Rattle.hall_symbol.specs.Operations.{op_at_origin, inversion_of}
@@ -16,19 +16,9 @@ use Rattle.hall_symbol.specs.Spelling.{Spelling, IsSpelling, text_of, part_of, s
 use Rattle.hall_symbol.specs.Generators.{generators_of}
 use Rattle.hall_symbol.specs.Words.{AreWords, trimmed, opening, closing}
 
--- the letter of a lattice
-abbrev pub lattice_byte : Lattice → ℕ
-lattice_byte P = 80
-lattice_byte A = 65
-lattice_byte B = 66
-lattice_byte C = 67
-lattice_byte I = 73
-lattice_byte R = 82
-lattice_byte F = 70
-
 -- [-]LATTICE
 abbrev pub head_text : Bool → Lattice → List ℕ
-head_text inverted lattice = sign_text inverted ++ (lattice_byte lattice ∷ [])
+head_text inverted lattice = sign_text inverted ++ (letter_of lattice ∷ [])
 
 -- the number with its sign
 abbrev pub signed_number : Bool → ℕ → ℤ

@@ -8,7 +8,7 @@ use Rattle.std.specs.Int.{int_rem_euclid}
 use Rattle.space_ops.specs.declared.op.Op.{Op}
 use Rattle.space_ops.specs.Matrix.{row_times}
 use Rattle.space_ops.specs.Op.{number_at, row_at}
-use Rattle.space_ops.specs.Whole.{whole}
+use Rattle.algebra.specs.Whole.{whole}
 use Rattle.hall_symbol.specs.declared.generator.Generator.{Generator}
 use Rattle.hall_symbol.specs.declared.rotation.Rotation.TheVariants.{One}
 use Rattle.hall_symbol.specs.Rotations.{rotation_rows}

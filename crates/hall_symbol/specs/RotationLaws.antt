@@ -6,7 +6,7 @@
 use Rattle.std.specs.Prelude.{◌≡◌, ℕ, zero, suc, ℤ, pos, negsuc, Bool, true, false, Option, Some, None, IfSome, refl}
 use Rattle.space_ops.specs.Matrix.{Matrix, Vector, determinant, image_under, matrix_times, unit_matrix}
 use Rattle.space_ops.specs.Op.{IsUnimodular, matrix_of}
-use Rattle.space_ops.specs.Whole.{whole}
+use Rattle.algebra.specs.Whole.{whole}
 use Rattle.hall_symbol.specs.declared.rotation.Rotation.{Rotation}
 use Rattle.hall_symbol.specs.declared.rotation.Rotation.TheVariants.{One, TwoZ, ThreeZ, FourZ, SixZ, TwoX, TwoY, FourX, FourY, TwoPrimeAfterZ, TwoDoublePrimeAfterZ, TwoPrimeAfterX, TwoDoublePrimeAfterX, TwoPrimeAfterY, TwoDoublePrimeAfterY, ThreeStar}
 use Rattle.hall_symbol.specs.Operations.{signed}

@@ -1,9 +1,9 @@
 -- What the readers of a symbol compute.
 --
 -- symbol_of text: the lattice and the operations of a text
-use Rattle.std.specs.Prelude.{ℕ, Bool, true, ◌==◌, nat_le, nat_lt, if◌then◌else◌, List, [], ◌∷◌, ◌++◌, length, map, Option, Some, None}
+use Rattle.std.specs.Prelude.{ℕ, Bool, true, nat_le, nat_lt, if◌then◌else◌, List, [], ◌∷◌, ◌++◌, length, map, Option, Some, None}
 use Rattle.space_ops.specs.declared.lattice.Lattice.{Lattice}
-use Rattle.space_ops.specs.declared.lattice.Lattice.TheVariants.{P, A, B, C, I, R, F}
+use Rattle.space_ops.specs.Lattice.{lattice_of}
 use Rattle.space_ops.specs.declared.op.Op.{Op}
 use Rattle.hall_symbol.specs.declared.generator.Generator.{Generator}
 use Rattle.hall_symbol.specs.Operations.{op_at_origin, inversion_of}
@@ -14,20 +14,10 @@ use Rattle.hall_symbol.specs.WordReading.{words}
 use Rattle.hall_symbol.specs.PartReading.{sign_at, part_in}
 use Rattle.hall_symbol.specs.ShiftReading.{is_byte, shift_at}
 
-abbrev pub lattice_of_byte : ℕ → Option Lattice
-lattice_of_byte c =
-    if c == 80 then Some P
-    else (if c == 65 then Some A
-    else (if c == 66 then Some B
-    else (if c == 67 then Some C
-    else (if c == 73 then Some I
-    else (if c == 82 then Some R
-    else (if c == 70 then Some F else None))))))
-
 -- the lattice that a word is
 unfoldable pub lattice_in : List ℕ → Option Lattice
 lattice_in [] = None
-lattice_in (c ∷ []) = lattice_of_byte c
+lattice_in (c ∷ []) = lattice_of c
 lattice_in (c ∷ d ∷ cs) = None
 
 unfoldable pub head_at : List (List ℕ) → Option (Bool × Lattice × List (List ℕ))

@@ -39,27 +39,12 @@ pub struct Generators {
     pub ops: ArrayVec<Op, 5>,
 }
 
-fn lattice_of_byte(byte: u8) -> Option<Lattice>
-    ensures { result ≡ symbol_reading.lattice_of_byte byte }
-{
-    match byte {
-        b'P' => Some(Lattice::P),
-        b'A' => Some(Lattice::A),
-        b'B' => Some(Lattice::B),
-        b'C' => Some(Lattice::C),
-        b'I' => Some(Lattice::I),
-        b'R' => Some(Lattice::R),
-        b'F' => Some(Lattice::F),
-        _ => None,
-    }
-}
-
 #[tactic(auto, unfolding(crate::specs::SymbolReading::lattice_in))]
 fn lattice_in(word: &[u8]) -> Option<Lattice>
     ensures { result ≡ symbol_reading.lattice_in word.now }
 {
     match word {
-        [letter] => lattice_of_byte(*letter),
+        [letter] => Lattice::from_letter(*letter),
         _ => None,
     }
 }

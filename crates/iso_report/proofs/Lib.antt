@@ -2,5 +2,4 @@ pub mod CheckLemmas
 pub mod FileLemmas
 pub mod GroupLemmas
 pub mod ListingLemmas
-pub mod MemberLemmas
 pub mod ReportLemmas

@@ -4,6 +4,8 @@ use Rattle.std.proofs.lemmas.Int.{ints}
 use Rattle.std.specs.declared.cmp.Ordering.TheVariants.{Equal, Greater}
 use Rattle.std.specs.Ordering.{nat_cmp, ordering_then}
 use Rattle.std.specs.Cmp.{nat_cmp_is}
+use Rattle.algebra.specs.RisingLists.{IsRisingListOf}
+use Rattle.algebra.specs.RisingListLaws.{has-listed, list-same, listed-below, listed-has, same-members}
 use Rattle.space_ops.specs.declared.op.Op.{Op}
 use Rattle.iso_report.specs.Action.{IsFixedBy, IsInFixedSpace, AreConjugate, conjugate}
 use Rattle.iso_report.specs.Directions.{Direction, IsReduced, AllVanish, AreEquations, IsDirection, IsOfClass, HasOneOfClass, IsListing, direction_cmp, dot, entry, row_at}
@@ -11,7 +13,6 @@ use Rattle.iso_report.specs.SignDirections.{direction_of, IsAll, IsKernel}
 use Rattle.iso_report.specs.SignRep.{action_of, group_of, number_of_sign}
 use Rattle.iso_report.specs.declared.sign_file.Sign.{Sign}
 use Rattle.iso_report.specs.declared.sign_file.Sign.TheVariants.{Plus, Minus}
-use Rattle.iso_report.proofs.MemberLemmas.{rising-one}
 
 -- 1 x is x
 one_times : (x : ℤ) → pos 1 *ℤ x ≡ x
@@ -142,19 +143,15 @@ module _ (ops : List Op) (values : List Sign) (size : length values ≡ length o
     isotropy = (
       pos 1 ∷ [],
       refl,
-      record {
-        rising = m.rising;
-        below = λ q c. let l : q < length values = m.below q c in omega (arith, size);
-        fixes = λ q c. fixes ops values q (m.holds q c) (pos 1 ∷ []);
-        whole = λ q l f. m.whole q (omega (arith, size)) (fixes_one ops values q f);
-      },
+      list-same (length ops) _ _ hs (λ q l e. fixes ops values q e (pos 1 ∷ [])) (λ q l f. fixes_one ops values q f)
+          (subst (λ n. IsRisingListOf n (λ q. slice_index_or values q Plus ≡ Plus) hs) size m),
     );
     equations = record {
       wide = λ k d l. absurd (omega arith);
       reduced = ([], none_reduced, λ k d l. absurd (omega arith));
-      exact = λ v e. (λ all q c. fixes ops values q (m.holds q c) v, λ f i l. absurd (omega arith));
+      exact = λ v e. (λ all q c. fixes ops values q (listed-has (length values) _ hs m q c) v, λ f i l. absurd (omega arith));
     };
-    whole = λ q l f. m.whole q (omega (arith, size)) (fixes_one ops values q (f (pos 1 ∷ []) refl (λ a c. fixes ops values a (m.holds a c) (pos 1 ∷ []))));
+    whole = λ q l f. has-listed (length values) _ hs m q (omega (arith, size)) (fixes_one ops values q (f (pos 1 ∷ []) refl (λ a c. fixes ops values a (listed-has (length values) _ hs m a c) (pos 1 ∷ []))));
   }
 
   -- the zero vector alone, fixed by all operations, where one of them has the value -1
@@ -163,19 +160,14 @@ module _ (ops : List Op) (values : List Sign) (size : length values ≡ length o
     isotropy = (
       pos 0 ∷ [],
       refl,
-      record {
-        rising = all.rising;
-        below = λ q c. let l : q < length values = all.below q c in omega (arith, size);
-        fixes = λ q c. fixes_zero ops values q;
-        whole = λ q l f. all.whole q (omega (arith, size)) tt;
-      },
+      list-same (length ops) _ _ hs (λ q l e. fixes_zero ops values q) (λ q l f. tt) (subst (λ n. IsAll n hs) size all),
     );
     equations = record {
       wide = all_one (λ row. length row ≡ 1) (pos 1 ∷ []) refl;
       reduced = (0 ∷ [], zero_reduced, all_one (λ p. p < 1) 0 (omega arith));
       exact = λ v k. exact v (coordinate v k);
     };
-    whole = λ q l f. all.whole q (omega (arith, size)) tt;
+    whole = λ q l f. has-listed (length values) _ hs all q (omega (arith, size)) tt;
   }
     where
       exact : (v : List ℤ) → (x : ℤ) × (v ≡ x ∷ []) → AllVanish ((pos 1 ∷ []) ∷ []) v ↔ IsInFixedSpace (action_of ops values) hs v
@@ -183,7 +175,7 @@ module _ (ops : List Op) (values : List Sign) (size : length values ≡ length o
         λ h q c. let nought : x ≡ pos 0 = sym (dot_one x) ∙ ap (dot (pos 1 ∷ [])) (sym k) ∙ h 0 (omega arith) in
             let P : List ℤ → Type 0 = IsFixedBy (action_of ops values) q in subst P (sym (k ∙ ap (λ y. y ∷ []) nought)) (fixes_zero ops values q),
         λ f. let P : List ℤ → Type 0 = IsFixedBy (action_of ops values) m in
-            let nought : x ≡ pos 0 = fixes_only ops values m x e (subst P k (f m (all.whole m n tt))) in
+            let nought : x ≡ pos 0 = fixes_only ops values m x e (subst P k (f m (has-listed (length values) _ hs all m n tt))) in
             λ i l. all_one (λ row. dot row v ≡ pos 0) (pos 1 ∷ []) (ap (dot (pos 1 ∷ [])) k ∙ dot_one x ∙ nought) i [] l,
       )
 
@@ -198,12 +190,12 @@ module _ (ops : List Op) (values : List Sign) (size : length values ≡ length o
   -- two directions of one class are equal
   direction-one : (d e : Direction) → IsDirection (action_of ops values) d → IsDirection (action_of ops values) e → AreConjugate (action_of ops values) d.stabiliser e.stabiliser → d ≡ e
   direction-one d e di ei (q, l, h) =
-      let below_d = di.isotropy.2.below in
-      let below_e = ei.isotropy.2.below in
+      let below_d = listed-below (length ops) _ d.stabiliser di.isotropy.2 in
+      let below_e = listed-below (length ops) _ e.stabiliser ei.isotropy.2 in
       let members : (a : ℕ) → a < length ops → Contains e.stabiliser a ↔ Contains d.stabiliser a =
       λ a m. let P : ℕ → Type 0 = λ b. Contains e.stabiliser b ↔ Contains d.stabiliser a in subst P (same q a l m) (h a m) in
       let stabiliser : d.stabiliser ≡ e.stabiliser =
-      rising-one d.stabiliser e.stabiliser di.isotropy.2.rising ei.isotropy.2.rising (λ a c. (members a (below_d a c)).1 c) (λ a c. (members a (below_e a c)).0 c) in
+      same-members (length ops) _ _ d.stabiliser e.stabiliser di.isotropy.2 ei.isotropy.2 (λ a c. (members a (below_d a c)).1 c) (λ a c. (members a (below_e a c)).0 c) in
       let P : List ℕ → Type 0 = AreEquations (action_of ops values) d.equations in
       let equations : d.equations ≡ e.equations = equations-one d.equations e.equations e.stabiliser (subst P stabiliser di.equations) ei.equations in
       λ i. record { equations = equations i; stabiliser = stabiliser i }
@@ -248,7 +240,7 @@ module _ (ops : List Op) (values : List Sign) (size : length values ≡ length o
       at = 0;
       direction = direction_of 1 ker;
       is_at = refl;
-      of_class = of_class v (direction_of 1 ker) (λ a l. (λ c. fixes ops values a (m.holds a c) v, λ f. m.whole a (omega (arith, size)) (plus a (omega (arith, size)))));
+      of_class = of_class v (direction_of 1 ker) (λ a l. (λ c. fixes ops values a (listed-has (length values) _ ker m a c) v, λ f. has-listed (length values) _ ker m a (omega (arith, size)) (plus a (omega (arith, size)))));
       only = only v;
     };
     least = λ d e c. least_in d e (only_in d c);
@@ -320,13 +312,13 @@ module _ (ops : List Op) (values : List Sign) (size : length values ≡ length o
       not_line : (v : List ℤ) → v ≡ pos 0 ∷ [] → IsOfClass (action_of ops values) v (direction_of 1 ker) → ⊥
       not_line v g h =
           let P : List ℤ → Type 0 = IsFixedBy (action_of ops values) m in
-          apart _ e (k.holds m ((class_of v (direction_of 1 ker) h m (omega (arith, size))).1 (subst P (sym g) (fixes_zero ops values m))))
+          apart _ e (listed-has (length values) _ ker k m ((class_of v (direction_of 1 ker) h m (omega (arith, size))).1 (subst P (sym g) (fixes_zero ops values m))))
 
       -- the zero vector alone isn't of the class of another
       not_zero : (v : List ℤ) (x : ℤ) → v ≡ x ∷ [] → (x ≡ pos 0 → ⊥) → IsOfClass (action_of ops values) v (direction_of 0 all) → ⊥
       not_zero v x g nonzero h =
           let P : List ℤ → Type 0 = IsFixedBy (action_of ops values) m in
-          nonzero (fixes_only ops values m x e (subst P g ((class_of v (direction_of 0 all) h m (omega (arith, size))).0 (a.whole m n tt))))
+          nonzero (fixes_only ops values m x e (subst P g ((class_of v (direction_of 0 all) h m (omega (arith, size))).0 (has-listed (length values) _ all a m n tt))))
 
       only_zero : (v : List ℤ) → v ≡ pos 0 ∷ [] → (i : ℕ) (d : Direction) → slice_get (direction_of 0 all ∷ direction_of 1 ker ∷ []) i ≡ Some d → IsOfClass (action_of ops values) v d → i ≡ 0
       only_zero v g zero d s h = refl
@@ -356,13 +348,13 @@ module _ (ops : List Op) (values : List Sign) (size : length values ≡ length o
                 at = 0;
                 direction = direction_of 0 all;
                 is_at = refl;
-                of_class = of_class v (direction_of 0 all) (λ q l. (λ c. let P : List ℤ → Type 0 = IsFixedBy (action_of ops values) q in subst P (sym zero_vector) (fixes_zero ops values q), λ f. a.whole q (omega (arith, size)) tt));
+                of_class = of_class v (direction_of 0 all) (λ q l. (λ c. let P : List ℤ → Type 0 = IsFixedBy (action_of ops values) q in subst P (sym zero_vector) (fixes_zero ops values q), λ f. has-listed (length values) _ all a q (omega (arith, size)) tt));
                 only = only_zero v zero_vector;
               }
           by (inr nonzero) = record {
             at = 1;
             direction = direction_of 1 ker;
             is_at = refl;
-            of_class = of_class v (direction_of 1 ker) (λ q l. (λ c. fixes ops values q (k.holds q c) v, λ f. k.whole q (omega (arith, size)) (plus_of v x g nonzero q f)));
+            of_class = of_class v (direction_of 1 ker) (λ q l. (λ c. fixes ops values q (listed-has (length values) _ ker k q c) v, λ f. has-listed (length values) _ ker k q (omega (arith, size)) (plus_of v x g nonzero q f)));
             only = only_line v x g nonzero;
           }

@@ -2,6 +2,7 @@
 use Rattle.std.proofs.Common.{◌≡◌, ℕ, zero, suc, ◌+◌, ◌<◌, ◌≤◌, List, [], ◌∷◌, ◌++◌, length, take, flat_map, get_or, codes, decimal, refl, sym, ◌∙◌, ap, subst, arith, append_assoc, ◌/◌}
 use Rattle.std.proofs.lemmas.List.{append-nil}
 use Rattle.std.specs.List.{enumerate_from}
+use Rattle.algebra.specs.RisingListLaws.{listed-below}
 use Rattle.space_ops.specs.declared.op.Op.{Op}
 use Rattle.iso_report.specs.Action.{Action}
 use Rattle.iso_report.specs.Directions.{Direction, IsDirection, IsListing, dim_of}
@@ -66,4 +67,4 @@ listing_within act ds h k d l j e m =
     let size : length (seen ds) ≡ length ds = length-map ds seen_one in
     let P : Direction → Type 0 = IsDirection act in
     let direction : IsDirection act (seen_one (get_or ds k d)) = subst P (get_or-map seen_one ds k d (seen_one d) l) (h.directions k (seen_one d) (omega arith)) in
-    direction.isotropy.2.below (get_or (get_or ds k d).stabiliser.items j e) (Contains-get_or (get_or ds k d).stabiliser.items j e m)
+    listed-below act.group.order _ (get_or ds k d).stabiliser.items direction.isotropy.2 (get_or (get_or ds k d).stabiliser.items j e) (Contains-get_or (get_or ds k d).stabiliser.items j e m)

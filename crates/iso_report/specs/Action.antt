@@ -8,8 +8,8 @@
 -- IsInFixedSpace act hs v: each member of hs fixes v
 -- AreConjugate act hs ks: ks is q hs q^-1 for an element q
 use Rattle.std.specs.Prelude.{◌≡◌, ℕ, ◌<◌, ◌↔◌, ℤ, List, length, Contains}
-use Rattle.std.specs.List.Sorted.{IsStrictlyIncreasing}
-use Rattle.iso_text.specs.NumberedGroup.{Group}
+use Rattle.algebra.specs.NumberedGroup.{Group}
+use Rattle.algebra.specs.RisingLists.{IsRisingListOf}
 
 -- a numbered group, the number of scalars of a vector, and the images of vectors
 pub record Action : Type 0 where
@@ -26,11 +26,8 @@ abbrev pub IsFixedBy : Action → ℕ → List ℤ → Type 0
 IsFixedBy act q v = act.image q v ≡ v
 
 -- hs is the rising list of all elements that fix v
-pub record IsStabiliserOf (act : Action) (v : List ℤ) (hs : List ℕ) : Type 0 where
-  pub rising : IsStrictlyIncreasing hs
-  pub below : (q : ℕ) → Contains hs q → q < act.group.order
-  pub fixes : (q : ℕ) → Contains hs q → IsFixedBy act q v
-  pub whole : (q : ℕ) → q < act.group.order → IsFixedBy act q v → Contains hs q
+abbrev pub IsStabiliserOf : Action → List ℤ → List ℕ → Type 0
+IsStabiliserOf act v = IsRisingListOf act.group.order (λ q. IsFixedBy act q v)
 
 -- hs is the stabiliser of some vector
 abbrev pub IsIsotropySubgroup : Action → List ℕ → Type 0

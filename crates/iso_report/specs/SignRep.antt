@@ -9,7 +9,7 @@
 use Rattle.std.specs.Prelude.{◌≡◌, ◌⊎◌, ℕ, ◌<◌, Bool, ℤ, pos, negsuc, ◌*ℤ◌, List, [], ◌∷◌, length, map, position, slice_index_or, unwrap_or}
 use Rattle.std.specs.Ordering.{int_eq}
 use Rattle.std.specs.Cmp.Lexicographic.{pointwise}
-use Rattle.iso_text.specs.NumberedGroup.{Group}
+use Rattle.algebra.specs.NumberedGroup.{Group}
 use Rattle.space_ops.specs.declared.op.Op.{Op}
 use Rattle.space_ops.specs.Op.{product_of, IsSmallRotation, IsShiftWithin}
 use Rattle.iso_report.specs.Action.{Action}

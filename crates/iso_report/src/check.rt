@@ -2,7 +2,7 @@
 ghost use Rattle.std.specs.Prelude.{◌≡◌, ◌≤◌, ◌++◌, [], IfOk, OnOk, length, flat_map, codes, decimal};
 ghost use Rattle.space_ops.specs.Lattice.{centrings_of};
 ghost use Rattle.space_ops.specs.OpText.{text_of};
-ghost use Rattle.iso_report.specs.Check.{lattice_letter, lattice_line, listed_line, supercell_line, check_text};
+ghost use Rattle.iso_report.specs.Check.{lattice_line, listed_line, supercell_line, check_text};
 ghost use Rattle.iso_report.specs.SignFile.{line};
 
 use crate::report::op_line;
@@ -11,21 +11,6 @@ use space_ops::{Group, Lattice};
 use std::alloc::Global;
 use super_group::Quotient;
 
-// The letter of a lattice.
-fn lattice_letter(lattice: Lattice) -> &'static [u8]
-    ensures { result.now ≡ lattice_letter lattice }
-{
-    match lattice {
-        Lattice::P => b"P",
-        Lattice::A => b"A",
-        Lattice::B => b"B",
-        Lattice::C => b"C",
-        Lattice::I => b"I",
-        Lattice::R => b"R",
-        Lattice::F => b"F",
-    }
-}
-
 // The line of the lattice, without its line feed.
 fn lattice_text(alloc: Global, lattice: Lattice, rotations: usize) -> Result<Text, NoMemory>
     ensures { IfOk result (λ text. text ≡ lattice_line lattice (length (centrings_of lattice)) rotations) }
@@ -33,7 +18,7 @@ fn lattice_text(alloc: Global, lattice: Lattice, rotations: usize) -> Result<Tex
     let centrings = lattice.centrings().len();
     let mut text = Text::new(alloc);
     text.push(b"lattice ")?;
-    text.push(lattice_letter(lattice))?;
+    text.push(&[lattice.letter()])?;
     text.push(b" centrings ")?;
     text.push_number(centrings as u64)?;
     text.push(b" rotations ")?;

@@ -14,8 +14,6 @@ pub mod Mark
 pub mod Memory
 pub mod Name
 pub mod NameView
-pub mod NumberedGroup
-pub mod NumberedGroupLaws
 pub mod Numbers
 pub mod OperationSpellings
 pub mod Operations

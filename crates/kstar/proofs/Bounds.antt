@@ -1,12 +1,10 @@
--- Bounds on the absolute values of whole numbers, and signed numbers that were passed by value.
+-- Bounds on the absolute values of whole numbers, also of products that were passed by value.
 use Rattle.std.proofs.Common.{◌≡◌, subst, FitsSigned, w32, w64, ◌∙◌, ℕ, ◌*◌, ◌<◌, ◌≤◌, ◌^◌, ap, sym, ℤ, pos, negsuc, ◌*ℤ◌, ◌+ℤ◌, unsigned_abs, to_z, of_z, arith}
 use Rattle.std.specs.Int.{Width}
 use Rattle.std.proofs.lemmas.Int.{ints, unsigned_abs-mul, to_z-of_z, fits_signed_from_abs}
 use Rattle.std.proofs.Math.Nat.{mul-le-mul_left, mul-le-mul_right}
+use Rattle.algebra.specs.PassedLaws.{passed}
 use Rattle.space_ops.specs.Op.{IsWithin}
-
-abbrev pub passed : Width → ℤ → ℤ
-passed w x = to_z w (of_z w x)
 
 pub abs_of_within : (n : ℕ) (x : ℤ) → IsWithin n x → unsigned_abs x ≤ n
 abs_of_within n (pos k) h = omega (arith, ints)
@@ -53,20 +51,6 @@ widened_product a x r s f g k l d e h =
     let b : unsigned_abs (a *ℤ x) ≤ 51539607552000 = abs_of_within 51539607552000 (a *ℤ x) w in
     let p : passed w64 r *ℤ passed w64 s ≡ a *ℤ x = (λ i. (to_z-of_z w64 r k ∙ d ∙ to_z-of_z w32 a f) i *ℤ (to_z-of_z w64 s l ∙ e ∙ to_z-of_z w32 x g) i) in
     subst (IsWithin 51539607552000) (sym (ap (passed w64) p ∙ to_z-of_z w64 (a *ℤ x) (fits_signed_from_abs w64 (a *ℤ x) (omega arith)))) w
-
-pub passed_sum : (w : Width) (r a b c a' b' c' : ℤ) → FitsSigned w r → FitsSigned w a → FitsSigned w b → FitsSigned w c → r ≡ (passed w a +ℤ passed w b) +ℤ passed w c
-    → a ≡ a' → b ≡ b' → c ≡ c' → passed w r ≡ (a' +ℤ b') +ℤ c'
-passed_sum w r a b c a' b' c' k f g h e p q s =
-    to_z-of_z w r k ∙ e ∙ (λ i. ((to_z-of_z w a f ∙ p) i +ℤ (to_z-of_z w b g ∙ q) i) +ℤ (to_z-of_z w c h ∙ s) i)
-
-pub product_is : (a x r : ℤ) → FitsSigned w32 a → FitsSigned w32 x → r ≡ passed w32 a *ℤ passed w32 x → r ≡ a *ℤ x
-product_is a x r f g e = e ∙ (λ i. to_z-of_z w32 a f i *ℤ to_z-of_z w32 x g i)
-
-pub clear : (w : Width) (P : ℤ → Type 0) (x : ℤ) → FitsSigned w x → P (passed w x) → P x
-clear w P x f h = subst P (to_z-of_z w x f) h
-
-pub unclear : (w : Width) (P : ℤ → Type 0) (x : ℤ) → FitsSigned w x → P x → P (passed w x)
-unclear w P x f h = subst P (sym (to_z-of_z w x f)) h
 
 pub within_more : (m n : ℕ) (x : ℤ) → m ≤ n → IsWithin m x → IsWithin n x
 within_more m n x l h = (omega (arith, ints, h.0), omega (arith, ints, h.1))

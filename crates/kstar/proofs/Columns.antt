@@ -2,7 +2,7 @@
 use Rattle.std.proofs.Common.{◌≡◌, subst, FitsSigned, w8, ◌∙◌, ℕ, ◌<◌, ap, sym, ℤ, pos, ◌≤ℤ◌, List, [], ◌∷◌, length, arith}
 use Rattle.std.proofs.lemmas.Int.{ints, to_z-of_z}
 use Rattle.space_ops.specs.declared.op.Op.{Op}
-use Rattle.space_ops.specs.Whole.{whole}
+use Rattle.algebra.specs.Whole.{whole}
 use Rattle.space_ops.specs.Seitz.{Seitz, inverse_matrix}
 use Rattle.space_ops.specs.Op.{IsWithin, IsShiftWithin, IsSmallMatrix, seitz_of, inverse_of, number_at}
 use Rattle.space_ops.specs.OpLaws.{seitz_of-inverse_of}
@@ -10,7 +10,7 @@ use Rattle.space_ops.specs.LeastShift.{IsInCell}
 use Rattle.space_ops.specs.Words.{op_at}
 use Rattle.space_ops.specs.Group.{Parent, IsParentGroup}
 use Rattle.space_ops.specs.GroupLaws.{parent-inverse}
-use Rattle.kstar.proofs.Bounds.{passed}
+use Rattle.algebra.specs.PassedLaws.{passed}
 
 pub column_is : (r : List ℤ) (x y z : ℤ) → FitsSigned w8 x → FitsSigned w8 y → FitsSigned w8 z → r ≡ passed w8 x ∷ passed w8 y ∷ passed w8 z ∷ [] → r ≡ x ∷ y ∷ z ∷ []
 column_is r x y z f g h e = e ∙ (λ i. to_z-of_z w8 x f i ∷ to_z-of_z w8 y g i ∷ to_z-of_z w8 z h i ∷ [])

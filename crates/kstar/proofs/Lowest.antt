@@ -4,12 +4,13 @@ use Prim.Native.Nat.{◌∣◌}
 use Rattle.std.proofs.Math.IntN.{pos-*ℤ-pos}
 use Rattle.std.proofs.Math.Nat.{one-dvd, div-mul_cancel, mul-le-mul_left, zero-mul, mul-zero}
 use Rattle.std.proofs.lemmas.Int.{ints, unsigned_abs-mul}
-use Rattle.space_ops.specs.Whole.{whole}
-use Rattle.space_ops.specs.WholeLaws.{whole_ring}
-use Rattle.space_ops.specs.Solve.{V, exps, at, solve}
+use Rattle.algebra.specs.Whole.{whole}
+use Rattle.algebra.specs.WholeLaws.{whole_ring}
+use Rattle.algebra.specs.Solve.{V, exps, at}
+use Rattle.algebra.specs.SolveLaws.{solve}
+use Rattle.algebra.specs.DivisorLaws.{times_cancelled}
 use Rattle.iso_text.specs.Fractions.{IsLowest}
 use Rattle.iso_text.specs.declared.numbers.Frac.{Frac}
-use Rattle.kstar.proofs.Remainders.{less_times, no_size}
 
 minus_times : (a b : ℤ) → neg_ℤ a *ℤ b ≡ neg_ℤ (a *ℤ b)
 minus_times a b = solve whole whole_ring (at (pos 0) (a ∷ b ∷ [])) (exps.mul (exps.neg (V 0)) (V 1)) (exps.neg (exps.mul (V 0) (V 1))) refl
@@ -19,22 +20,6 @@ last_first a b c = solve whole whole_ring (at (pos 0) (a ∷ b ∷ c ∷ [])) (e
 
 together : (a b c : ℤ) → a *ℤ (b *ℤ c) ≡ (a *ℤ b) *ℤ c
 together a b c = solve whole whole_ring (at (pos 0) (a ∷ b ∷ c ∷ [])) (exps.mul (V 0) (exps.mul (V 1) (V 2))) (exps.mul (exps.mul (V 0) (V 1)) (V 2)) refl
-
-none_of : (n e : ℕ) → 0 < e → n * e ≡ 0 → n ≡ 0
-none_of zero e some h = refl
-none_of (suc n) e some h = let l : e * 1 ≤ e * suc n = mul-le-mul_left e (omega arith) in absurd (omega (arith, h, l))
-
-difference_none : (a b : ℤ) → a +ℤ neg_ℤ b ≡ pos 0 → a ≡ b
-difference_none a b e = omega (arith, ints, e)
-
-same_less : (a b : ℤ) → a ≡ b → a +ℤ neg_ℤ b ≡ pos 0
-same_less a b e = omega (arith, ints, e)
-
-cancelled : (a b : ℤ) (e : ℕ) → 0 < e → a *ℤ pos e ≡ b *ℤ pos e → a ≡ b
-cancelled a b e some h =
-    let f : (a +ℤ neg_ℤ b) *ℤ pos e ≡ pos 0 = less_times a b (pos e) ∙ same_less (a *ℤ pos e) (b *ℤ pos e) h in
-    let g : unsigned_abs (a +ℤ neg_ℤ b) * e ≡ 0 = sym (unsigned_abs-mul (a +ℤ neg_ℤ b) (pos e)) ∙ ap unsigned_abs f in
-    difference_none a b (no_size (a +ℤ neg_ℤ b) (none_of (unsigned_abs (a +ℤ neg_ℤ b)) e some g))
 
 quotient : (x : ℤ) (e : ℕ) → e ∣ unsigned_abs x → (y : ℤ) × (y *ℤ pos e ≡ x)
 quotient (pos n) e h = (pos (n / e), pos-*ℤ-pos (n / e) e ∙ ap pos (div-mul_cancel e h))
@@ -51,7 +36,7 @@ module _ (z : ℤ) (d : ℕ) (f : Frac) (some : 0 < f.den) (same : f.num *ℤ po
     (least : (m : ℕ) → 0 < m → m < f.den → (x : ℤ) → x *ℤ pos d ≡ z *ℤ pos m → ⊥) where
   divided : (e : ℕ) → 0 < e → (y : ℤ) → y *ℤ pos e ≡ f.num → (m : ℕ) → m * e ≡ f.den → y *ℤ pos d ≡ z *ℤ pos m
   divided e l y g m h =
-      cancelled (y *ℤ pos d) (z *ℤ pos m) e l
+      times_cancelled (y *ℤ pos d) (z *ℤ pos m) e l
       (last_first y (pos d) (pos e) ∙ ap (λ t. t *ℤ pos d) g ∙ same ∙ ap (λ t. z *ℤ t) (ap pos (sym h) ∙ sym (pos-*ℤ-pos m e)) ∙ together z (pos m) (pos e))
 
   common : (e : ℕ) → e ∣ unsigned_abs f.num → e ∣ f.den → e ∣ 1

@@ -5,22 +5,15 @@ use Rattle.space_ops.specs.Op.{vector_of}
 use Rattle.space_ops.specs.Matrix.{Vector}
 use Rattle.space_ops.specs.Group.{Parent}
 use Rattle.kstar.specs.WaveVector.{AreEquivalent}
-use Rattle.kstar.specs.Star.{IsRisingListOf, image_at, IsLittle, IsFirstOfArm, WaveStar, row_in, AreImages, IsStarOf}
+use Rattle.algebra.specs.RisingLists.{IsRisingListOf}
+use Rattle.algebra.specs.RisingListLaws.{list-same}
+use Rattle.kstar.specs.Star.{image_at, IsLittle, IsFirstOfArm, WaveStar, row_in, AreImages, IsStarOf}
 use Rattle.kstar.specs.Rows.{AreAllImages, AreRowsAt, IsStarOfRows}
 
 -- what follows of each value, follows of an answer
 pub ok_same : {T E : Type 0} {P Q : T → Type 0} (r : Result T E) → ((x : T) → P x → Q x) → IfOk r P → IfOk r Q
 ok_same (Ok x) f h = f x h
 ok_same (Err e) f h = h
-
--- lists of numbers with the same property
-list-same : (n : ℕ) (P Q : ℕ → Type 0) (xs : List ℕ) → ((r : ℕ) → r < n → P r → Q r) → ((r : ℕ) → r < n → Q r → P r) → IsRisingListOf n P xs → IsRisingListOf n Q xs
-list-same n P Q xs f g h = record {
-  below = h.below;
-  has = λ i l. f (get_or xs i 0) (h.below i l) (h.has i l);
-  rising = h.rising;
-  every = λ r l q. h.every r l (g r l q);
-}
 
 module _ (p : Parent) (k : Vector ℤ) (images : List (List ℤ)) (all : AreAllImages p k (length p.ops) images) where
   little-is : (lattice : Lattice) (xs : List ℕ) → lattice ≡ p.lattice → IsRisingListOf (length images) (λ r. AreEquivalent lattice (row_in images r) k) xs → IsRisingListOf (length p.ops) (IsLittle p k) xs

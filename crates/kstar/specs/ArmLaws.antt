@@ -1,6 +1,5 @@
 -- Laws of the arms of a star, by the numbers of their representatives.
 --
--- list-injective: a list of numbers lists each once
 -- first-image: each image is equivalent to that of the first operation which gives it
 -- arm-some: each image is equivalent to an arm
 -- arm-one: arms are pairwise inequivalent
@@ -10,16 +9,12 @@ use Rattle.space_ops.specs.Words.{vector_difference}
 use Rattle.space_ops.specs.Group.{Parent, IsParentGroup}
 use Rattle.kstar.specs.WaveVector.{AreEquivalent}
 use Rattle.kstar.specs.WaveVectorLaws.{equivalent-refl, equivalent-sym, equivalent-trans}
-use Rattle.kstar.specs.Star.{IsRisingListOf, image_at, IsFirstOfArm}
+use Rattle.algebra.specs.RisingLists.{IsRisingListOf}
+use Rattle.kstar.specs.Star.{image_at, IsFirstOfArm}
 use Rattle.kstar.specs.DecisionLaws.{whole-decide, first_of_some}
 
 same_number : (i j : ℕ) → (i < j → ⊥) → (j < i → ⊥) → i ≡ j
 same_number i j h k = grind arith
-
-pub list-injective : (n : ℕ) (P : ℕ → Type 0) (xs : List ℕ) → IsRisingListOf n P xs → (i j : ℕ) → i < length xs → j < length xs → get_or xs i 0 ≡ get_or xs j 0 → i ≡ j
-list-injective n P xs h i j l m e =
-    same_number i j (λ b. let k : get_or xs i 0 < get_or xs j 0 = h.rising i j b m in absurd (omega (arith, e, k)))
-    (λ b. let k : get_or xs j 0 < get_or xs i 0 = h.rising j i b l in absurd (omega (arith, e, k)))
 
 module _ (p : Parent) (h : IsParentGroup p) (k : Vector ℤ) where
   -- each image is equivalent to that of the first operation which gives it

@@ -9,8 +9,9 @@ use Rattle.space_ops.specs.declared.lattice.Lattice.{Lattice}
 use Rattle.space_ops.specs.Matrix.{Vector}
 use Rattle.space_ops.specs.Lattice.{centrings_of}
 use Rattle.space_ops.specs.Words.{centring_at}
-use Rattle.kstar.specs.Multiples.{rem-multiple, multiple-rem}
-use Rattle.kstar.specs.WaveVector.{IsMultiple, row_value, IsWhole}
+use Rattle.algebra.specs.MultipleLaws.{rem-multiple, multiple-rem}
+use Rattle.algebra.specs.Multiples.{IsMultiple}
+use Rattle.kstar.specs.WaveVector.{row_value, IsWhole}
 use Rattle.kstar.specs.WaveVectorLaws.{IsDozens, whole-generated, whole-centrings, whole-edges}
 
 -- P holds, or it doesn't

@@ -6,9 +6,10 @@
 -- image_at-product, image_at-identity, back-image: images under the operations of a group
 use Rattle.std.proofs.Common.{◌≡◌, refl, sym, ap, ◌∙◌, subst, ℕ, ◌<◌, ℤ, length}
 use Rattle.space_ops.specs.declared.lattice.Lattice.{Lattice}
-use Rattle.space_ops.specs.Whole.{whole}
-use Rattle.space_ops.specs.WholeLaws.{whole_ring}
-use Rattle.space_ops.specs.Solve.{exps, solve}
+use Rattle.algebra.specs.Whole.{whole}
+use Rattle.algebra.specs.WholeLaws.{whole_ring}
+use Rattle.algebra.specs.Solve.{exps}
+use Rattle.algebra.specs.SolveLaws.{solve}
 use Rattle.space_ops.specs.Matrix.{Matrix, Vector, matrix_times, image_under, unit_matrix}
 use Rattle.space_ops.specs.MatrixLaws.{same_vector, matrix_times-assoc, matrix_times-unit, unit-matrix_times}
 use Rattle.space_ops.specs.Seitz.{Seitz, inverse_matrix}
@@ -18,7 +19,8 @@ use Rattle.space_ops.specs.Words.{op_at, vector_difference, IsLatticeVector}
 use Rattle.space_ops.specs.Group.{Parent, IsParentGroup}
 use Rattle.space_ops.specs.GroupLaws.{parent-product, parent-inverse, parent-keeps, parent-unimodular, rotation_group, rotation_group-lawful, place_of-is}
 use Rattle.kstar.specs.Star.{image_at}
-use Rattle.kstar.specs.WaveVector.{IsMultiple, row_value, row_product, image_of, AreEquivalent}
+use Rattle.algebra.specs.Multiples.{IsMultiple}
+use Rattle.kstar.specs.WaveVector.{row_value, row_product, image_of, AreEquivalent}
 use Rattle.kstar.specs.WaveVectorLaws.{row_value-product}
 use Rattle.kstar.specs.RowExpressions.{vk, vl, va, vb, env, product_exp, difference_exp}
 

@@ -1,5 +1,4 @@
 pub mod WaveVector
-pub mod Multiples
 pub mod RowExpressions
 pub mod WaveVectorLaws
 pub mod Fraction
@@ -11,6 +10,5 @@ pub mod LittleLaws
 pub mod DecisionLaws
 pub mod ArmLaws
 pub mod OrderLaws
-pub mod Subgroup
 pub mod StarLaws
 pub mod StarView

@@ -3,7 +3,7 @@
 -- little-identity, little-product, little-inverse: the little group is a subgroup
 -- phase-little: the phase of R t is that of t, for R of the little group
 use Rattle.std.proofs.Common.{◌≡◌, sym, ap, ◌∙◌, subst, ℕ, ◌<◌, ℤ, ◌+ℤ◌, neg_ℤ, length}
-use Rattle.space_ops.specs.Whole.{whole}
+use Rattle.algebra.specs.Whole.{whole}
 use Rattle.space_ops.specs.Matrix.{Vector, image_under}
 use Rattle.space_ops.specs.Seitz.{inverse_matrix}
 use Rattle.space_ops.specs.OpLaws.{back-matrix}
@@ -11,7 +11,8 @@ use Rattle.space_ops.specs.Words.{op_at, vector_difference, IsLatticeVector}
 use Rattle.space_ops.specs.Group.{Parent, IsParentGroup}
 use Rattle.space_ops.specs.GroupLaws.{parent-keeps, parent-unimodular, rotation_group, rotation_group-lawful}
 use Rattle.kstar.specs.Star.{image_at, IsLittle}
-use Rattle.kstar.specs.WaveVector.{IsMultiple, row_value, row_product, AreEquivalent, HasPhases, phase_of}
+use Rattle.algebra.specs.Multiples.{IsMultiple}
+use Rattle.kstar.specs.WaveVector.{row_value, row_product, AreEquivalent, HasPhases, phase_of}
 use Rattle.kstar.specs.WaveVectorLaws.{row_value-product, row_value-difference, equivalent-refl, equivalent-sym, equivalent-trans, phases-lattice}
 use Rattle.kstar.specs.PhaseLaws.{phase_of-equal}
 use Rattle.kstar.specs.ImageLaws.{row_product-product, row_product-unit, product-equivalent, image-equivalent, image_at-product, image_at-identity, back-image}

@@ -3,18 +3,20 @@
 -- little-times_arms: each operation is, in one way, that of an arm after a member of the little group
 use Rattle.std.proofs.Common.{◌≡◌, sym, ap, ◌∙◌, subst, ℕ, ℤ, ◌<◌, ◌≤◌, ◌+◌, ◌*◌, ◌/◌, ◌%◌, List, length, get_or, arith}
 use Rattle.std.proofs.Math.Nat.{div-add-mod, mod-lt, div-lt_iff_lt-mul, add-mul-div_right, mul-le-mul_right}
-use Rattle.iso_text.specs.NumberedGroup.{Group, IsGroup}
-use Rattle.iso_text.specs.NumberedGroupLaws.{product-back, cancel}
+use Rattle.algebra.specs.NumberedGroup.{Group, IsGroup}
+use Rattle.algebra.specs.NumberedGroupLaws.{product-back, cancel}
 use Rattle.space_ops.specs.Matrix.{Vector}
 use Rattle.space_ops.specs.Group.{Parent, IsParentGroup}
 use Rattle.space_ops.specs.GroupLaws.{rotation_group, rotation_group-lawful}
-use Rattle.space_ops.specs.Pigeonhole.{pigeonhole}
+use Rattle.algebra.specs.Pigeonhole.{pigeonhole}
 use Rattle.kstar.specs.WaveVector.{AreEquivalent}
 use Rattle.kstar.specs.WaveVectorLaws.{equivalent-sym, equivalent-trans}
-use Rattle.kstar.specs.Star.{IsRisingListOf, image_at, IsLittle, IsFirstOfArm}
+use Rattle.algebra.specs.RisingLists.{IsRisingListOf}
+use Rattle.kstar.specs.Star.{image_at, IsLittle, IsFirstOfArm}
 use Rattle.kstar.specs.ImageLaws.{image-equivalent, image_at-product, back-image}
 use Rattle.kstar.specs.LittleLaws.{little-identity}
-use Rattle.kstar.specs.ArmLaws.{list-injective, arm-some, arm-one}
+use Rattle.algebra.specs.RisingListLaws.{list-injective}
+use Rattle.kstar.specs.ArmLaws.{arm-some, arm-one}
 
 module _ (p : Parent) (h : IsParentGroup p) (k : Vector ℤ) (by : List ℕ) (arms : IsRisingListOf (length p.ops) (IsFirstOfArm p k) by) where
   module _ (little : List ℕ) (members : IsRisingListOf (length p.ops) (IsLittle p k) little) where

@@ -7,9 +7,10 @@
 -- phase_of-equal: equal where k.t differs by a whole number
 use Rattle.std.proofs.Common.{◌≡◌, ℕ, zero, suc, ◌<◌, ◌+◌, ◌*◌, ◌%◌, ◌/◌, ℤ, pos, negsuc, ◌+ℤ◌, ◌*ℤ◌, neg_ℤ, arith}
 use Rattle.std.proofs.lemmas.Int.{ints}
-use Rattle.space_ops.specs.Whole.{whole}
+use Rattle.algebra.specs.Whole.{whole}
 use Rattle.space_ops.specs.Matrix.{Vector, vector_sum}
-use Rattle.kstar.specs.WaveVector.{IsMultiple, row_value, HasPhase, turn_of, phase_of}
+use Rattle.algebra.specs.Multiples.{IsMultiple}
+use Rattle.kstar.specs.WaveVector.{row_value, HasPhase, turn_of, phase_of}
 use Rattle.kstar.specs.WaveVectorLaws.{row_value-sum}
 
 turn_below : (x : ℤ) → turn_of x < 24

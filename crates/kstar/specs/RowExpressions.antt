@@ -4,7 +4,7 @@
 -- env k l m t a b: their values
 -- value_exp, product_exp, difference_exp: a row times a column, a row times a matrix, a difference of rows
 use Rattle.std.proofs.Common.{ℕ, ℤ, pos, [], ◌∷◌}
-use Rattle.space_ops.specs.Solve.{Exp, V, exps, at}
+use Rattle.algebra.specs.Solve.{Exp, V, exps, at}
 use Rattle.space_ops.specs.Matrix.{Matrix, Vector, row_times, vector_sum, minus_vector}
 
 abbrev pub vk : Vector Exp

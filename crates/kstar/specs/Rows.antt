@@ -10,7 +10,8 @@ use Rattle.space_ops.specs.Matrix.{Vector}
 use Rattle.space_ops.specs.Op.{IsShiftWithin}
 use Rattle.space_ops.specs.Group.{Parent}
 use Rattle.kstar.specs.WaveVector.{AreEquivalent}
-use Rattle.kstar.specs.Star.{IsRisingListOf, image_at, row_in, WaveStar}
+use Rattle.algebra.specs.RisingLists.{IsRisingListOf}
+use Rattle.kstar.specs.Star.{image_at, row_in, WaveStar}
 
 -- each entry is at most 10,368 in absolute value
 abbrev pub AreNear : List (List ℤ) → Type 0

@@ -1,6 +1,5 @@
 -- The little group and the star of a wave vector.
 --
--- IsRisingListOf n P xs: xs lists the numbers below n with the property P, rising
 -- image_at p k r: the image of k under operation r of the list
 -- IsLittle p k r: operation r leaves k equivalent to itself
 -- IsFirstOfArm p k r: no operation before r gives an image of k that is equivalent to that of r
@@ -13,6 +12,7 @@
 -- CoverImages p k s: each image of k is equivalent to an arm
 -- IsFirstBad vectors k f, IsFirstBadPhase lattice k f: the first k.c that is no multiple of 1/24, in lowest terms
 use Rattle.std.specs.Prelude.{◌≡◌, ℕ, ◌<◌, ℤ, List, [], length, slice_index_or, slice_index}
+use Rattle.algebra.specs.RisingLists.{IsRisingListOf}
 use Rattle.iso_text.specs.declared.numbers.Frac.{Frac}
 use Rattle.iso_text.specs.Fractions.{IsLowest}
 use Rattle.space_ops.specs.declared.lattice.Lattice.{Lattice}
@@ -22,13 +22,6 @@ use Rattle.space_ops.specs.Lattice.{centrings_of}
 use Rattle.space_ops.specs.Words.{op_at}
 use Rattle.space_ops.specs.Group.{Parent}
 use Rattle.kstar.specs.WaveVector.{row_value, image_of, AreEquivalent, IsInLittleGroup, HasPhase}
-
--- the numbers below n with the property P, rising
-pub record IsRisingListOf (n : ℕ) (P : ℕ → Type 0) (xs : List ℕ) : Type 0 where
-  pub below : (i : ℕ) → i < length xs → slice_index xs i < n
-  pub has : (i : ℕ) → i < length xs → P (slice_index xs i)
-  pub rising : (i j : ℕ) → i < j → j < length xs → slice_index xs i < slice_index xs j
-  pub every : (r : ℕ) → r < n → P r → (i : ℕ) × (i < length xs) × (slice_index xs i ≡ r)
 
 -- the image of k under operation r of the list
 abbrev pub image_at : Parent → Vector ℤ → ℕ → Vector ℤ

@@ -12,22 +12,14 @@ use Rattle.space_ops.specs.Matrix.{Vector}
 use Rattle.space_ops.specs.Group.{Parent, IsParentGroup}
 use Rattle.space_ops.specs.GroupLaws.{rotation_group, rotation_group-lawful}
 use Rattle.kstar.specs.WaveVector.{AreEquivalent}
-use Rattle.kstar.specs.Star.{IsRisingListOf, IsLittle, image_at, row_in, WaveStar, IsStarOf, HasFirstArm, AreInequivalent, CoverImages}
-use Rattle.kstar.specs.Subgroup.{IsSubgroup}
+use Rattle.algebra.specs.RisingLists.{IsRisingListOf}
+use Rattle.algebra.specs.RisingListLaws.{listed-below, listed-has, has-listed}
+use Rattle.kstar.specs.Star.{IsLittle, image_at, row_in, WaveStar, IsStarOf, HasFirstArm, AreInequivalent, CoverImages}
+use Rattle.algebra.specs.Subgroup.{IsSubgroup}
 use Rattle.kstar.specs.ImageLaws.{image_at-identity}
 use Rattle.kstar.specs.LittleLaws.{little-identity, little-product, little-inverse}
 use Rattle.kstar.specs.ArmLaws.{arm-some, arm-one}
 use Rattle.kstar.specs.OrderLaws.{little-times_arms}
-
--- what a list of numbers contains
-listed-below : (n : ℕ) (P : ℕ → Type 0) (xs : List ℕ) → IsRisingListOf n P xs → (a : ℕ) → Contains xs a → a < n
-listed-below n P xs h a (i, l, e) = subst (λ m. m < n) (get_or_default xs i 0 a l ∙ e) (h.below i l)
-
-listed-has : (n : ℕ) (P : ℕ → Type 0) (xs : List ℕ) → IsRisingListOf n P xs → (a : ℕ) → Contains xs a → P a
-listed-has n P xs h a (i, l, e) = subst P (get_or_default xs i 0 a l ∙ e) (h.has i l)
-
-has-listed : (n : ℕ) (P : ℕ → Type 0) (xs : List ℕ) → IsRisingListOf n P xs → (a : ℕ) → a < n → P a → Contains xs a
-has-listed n P xs h a l p = let w = h.every a l p in (w.0, w.1, get_or_default xs w.0 a 0 w.1 ∙ w.2)
 
 least-first : (n : ℕ) (P : ℕ → Type 0) (xs : List ℕ) → IsRisingListOf n P xs → (i : ℕ) → i < length xs → get_or xs i 0 ≡ 0 → get_or xs 0 0 ≡ 0
 least-first n P xs h zero l e = e

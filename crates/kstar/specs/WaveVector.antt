@@ -1,6 +1,5 @@
 -- Wave vectors as rows of whole numbers: 12 k, beside translations in twelfths.
 --
--- IsMultiple n x: x is n times a whole number
 -- row_value k t: the row k times the column t; 144 (k.t) where both are in twelfths
 -- image_of k r: the row k R^-1
 -- IsWhole lattice k: k.t is whole for every lattice translation t
@@ -13,16 +12,12 @@ use Rattle.std.specs.Prelude.{◌≡◌, ℕ, ◌<◌, ◌/◌, ℤ, pos, ◌*�
 use Rattle.std.specs.Int.{int_rem_euclid}
 use Rattle.std.specs.Int.RustNames.{unsigned_abs}
 use Rattle.space_ops.specs.declared.lattice.Lattice.{Lattice}
-use Rattle.space_ops.specs.Whole.{whole}
+use Rattle.algebra.specs.Multiples.{IsMultiple}
+use Rattle.algebra.specs.Whole.{whole}
 use Rattle.space_ops.specs.Matrix.{Matrix, Vector, row_times}
 use Rattle.space_ops.specs.Seitz.{inverse_matrix}
 use Rattle.space_ops.specs.Lattice.{centrings_of}
 use Rattle.space_ops.specs.Words.{centring_at, vector_difference, IsLatticeVector}
-
--- x is n times a whole number
-pub record IsMultiple (n : ℕ) (x : ℤ) : Type 0 where
-  pub quotient : ℤ
-  pub is : x ≡ pos n *ℤ quotient
 
 -- the row k times the column t
 abbrev pub row_value : Vector ℤ → Vector ℤ → ℤ

@@ -8,16 +8,18 @@
 use Rattle.std.proofs.Common.{◌≡◌, refl, sym, ap, ◌∙◌, subst, ℕ, ◌<◌, ℤ, pos, ◌+ℤ◌, ◌*ℤ◌, neg_ℤ, length, arith}
 use Rattle.std.proofs.lemmas.Int.{ints}
 use Rattle.space_ops.specs.declared.lattice.Lattice.{Lattice}
-use Rattle.space_ops.specs.Whole.{whole}
-use Rattle.space_ops.specs.WholeLaws.{whole_ring}
-use Rattle.space_ops.specs.Solve.{V, exps, solve}
+use Rattle.algebra.specs.Whole.{whole}
+use Rattle.algebra.specs.WholeLaws.{whole_ring}
+use Rattle.algebra.specs.Solve.{V, exps}
+use Rattle.algebra.specs.SolveLaws.{solve}
 use Rattle.space_ops.specs.Matrix.{Matrix, Vector, image_under, vector_sum, zero_vector, unit_matrix}
 use Rattle.space_ops.specs.Lattice.{centrings_of}
 use Rattle.space_ops.specs.Words.{centring_at, cell_edges, vector_difference, IsLatticeVector}
 use Rattle.space_ops.specs.LatticeLaws.{zero-lattice, edges-lattice, centring-lattice}
 use Rattle.kstar.specs.RowExpressions.{vk, vl, vm, vt, va, env, value_exp, product_exp, difference_exp}
-use Rattle.kstar.specs.Multiples.{multiple_zero, multiple_sum, multiple_minus}
-use Rattle.kstar.specs.WaveVector.{IsMultiple, row_value, row_product, IsWhole, AreEquivalent, HasPhase, HasPhases}
+use Rattle.algebra.specs.MultipleLaws.{multiple_zero, multiple_sum, multiple_minus}
+use Rattle.algebra.specs.Multiples.{IsMultiple}
+use Rattle.kstar.specs.WaveVector.{row_value, row_product, IsWhole, AreEquivalent, HasPhase, HasPhases}
 
 -- (k a).t = k.(a t)
 pub row_value-product : (k : Vector ℤ) (a : Matrix ℤ) (t : Vector ℤ) → row_value (row_product k a) t ≡ row_value k (image_under whole a t)

@@ -3,7 +3,8 @@ ghost use Rattle.std.specs.Prelude.{◌≡◌, ℕ, ◌<◌, ◌+ℤ◌, pos, ne
 ghost use Rattle.std.specs.Int.{int_rem_euclid};
 ghost use Rattle.space_ops.specs.Op.{IsWithin, IsShiftWithin, vector_of};
 ghost use Rattle.space_ops.specs.Words.{vector_difference};
-ghost use Rattle.kstar.specs.WaveVector.{IsMultiple, row_value, IsWhole, AreEquivalent};
+ghost use Rattle.algebra.specs.Multiples.{IsMultiple};
+ghost use Rattle.kstar.specs.WaveVector.{row_value, IsWhole, AreEquivalent};
 ghost use Rattle.kstar.specs.WaveVectorLaws.{IsDozens};
 
 use crate::product::{difference, value};

@@ -1,7 +1,7 @@
 // Images of a row.
 ghost use Rattle.std.specs.Prelude.{◌≡◌, ℕ, ◌<◌, IfOk, length, slice_index_or, [], ◌∷◌};
 ghost use Rattle.space_ops.specs.Op.{IsWithin, IsShiftWithin, IsSmallMatrix, matrix_of, vector_of, shift_of, number_at, row_at};
-ghost use Rattle.space_ops.specs.Whole.{whole};
+ghost use Rattle.algebra.specs.Whole.{whole};
 ghost use Rattle.space_ops.specs.Seitz.{inverse_matrix};
 ghost use Rattle.space_ops.specs.Words.{op_at};
 ghost use Rattle.space_ops.specs.Group.{IsParentGroup};

@@ -1,7 +1,7 @@
 // Laws over the definitions, as contracts of functions that do nothing.
 ghost use Rattle.std.specs.Prelude.{◌≡◌, ℕ, ◌<◌, ℤ, length};
 ghost use Rattle.space_ops.specs.declared.lattice.Lattice.{Lattice};
-ghost use Rattle.space_ops.specs.Whole.{whole};
+ghost use Rattle.algebra.specs.Whole.{whole};
 ghost use Rattle.space_ops.specs.Matrix.{Vector, image_under};
 ghost use Rattle.space_ops.specs.Words.{op_at, IsLatticeVector};
 ghost use Rattle.space_ops.specs.Group.{Parent, IsParentGroup};

@@ -2,7 +2,8 @@
 ghost use Rattle.std.specs.Prelude.{◌≡◌, ℕ, ◌<◌, IfOk, true, false, length, slice_index, slice_index_or, [], ◌∷◌, ◌++◌};
 ghost use Rattle.space_ops.specs.Op.{IsShiftWithin, vector_of};
 ghost use Rattle.kstar.specs.WaveVector.{AreEquivalent};
-ghost use Rattle.kstar.specs.Star.{IsRisingListOf, row_in};
+ghost use Rattle.algebra.specs.RisingLists.{IsRisingListOf};
+ghost use Rattle.kstar.specs.Star.{row_in};
 ghost use Rattle.kstar.specs.Rows.{AreNear};
 
 use crate::equivalence::are_equivalent;

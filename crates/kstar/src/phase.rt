@@ -2,7 +2,8 @@
 ghost use Rattle.std.specs.Prelude.{◌≡◌, ℕ, ◌<◌, ◌/◌, pos, neg_ℤ, true, false, length, slice_index_or, [], MatchOption};
 ghost use Rattle.std.specs.Int.{int_rem_euclid};
 ghost use Rattle.space_ops.specs.Op.{IsWithin, IsShiftWithin, vector_of};
-ghost use Rattle.kstar.specs.WaveVector.{IsMultiple, row_value, HasPhase, HasPhases, turn_of, phase_of};
+ghost use Rattle.algebra.specs.Multiples.{IsMultiple};
+ghost use Rattle.kstar.specs.WaveVector.{row_value, HasPhase, HasPhases, turn_of, phase_of};
 ghost use Rattle.kstar.specs.Star.{IsFirstBad, IsFirstBadPhase, row_in};
 
 use crate::fraction::lowest;

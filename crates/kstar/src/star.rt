@@ -108,15 +108,16 @@ fn star_of(alloc: Global, group: &Group, row: [i32; 3]) -> Result<Star, NoMemory
 
 impl Star {
     ghost use Rattle.std.specs.Prelude.{◌≡◌, ℕ, ◌<◌, ◌+◌, ◌*◌, ◌%◌, ℤ, pos, ◌+ℤ◌, IfOk, length, slice_index, Err};
-    ghost use Rattle.space_ops.specs.Whole.{whole};
+    ghost use Rattle.algebra.specs.Whole.{whole};
     ghost use Rattle.space_ops.specs.Matrix.{Vector, vector_sum};
     ghost use Rattle.space_ops.specs.GroupLaws.{rotation_group};
     ghost use Rattle.space_ops.specs.Op.{vector_of};
     ghost use Rattle.space_ops.specs.Words.{IsLatticeVector};
     ghost use Rattle.kstar.specs.Fraction.{IsWaveVector, row_of, IsLowestRow};
-    ghost use Rattle.kstar.specs.WaveVector.{IsMultiple, row_value, HasPhases, phase_of};
+    ghost use Rattle.algebra.specs.Multiples.{IsMultiple};
+    ghost use Rattle.kstar.specs.WaveVector.{row_value, HasPhases, phase_of};
     ghost use Rattle.kstar.specs.Star.{IsStarOf, IsFirstBadPhase, HasFirstArm, AreInequivalent, CoverImages, row_in};
-    ghost use Rattle.kstar.specs.Subgroup.{IsSubgroup};
+    ghost use Rattle.algebra.specs.Subgroup.{IsSubgroup};
 
     /// The star of k under the group. Condition: `k.is_wave_vector()`. Errors: the first k.c that is
     /// no multiple of 1/24, over the centring vectors c; want of memory.

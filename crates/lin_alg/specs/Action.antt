@@ -6,7 +6,7 @@
 -- image f act q v: A(q) v; image_of is that where entries past the dimension stay
 -- IsFixed f act q v: q leaves v as it is
 use Rattle.std.specs.Prelude.{◌≡◌, ℕ, ◌<◌, ℤ, true, List, ltb, if◌then◌else◌}
-use Rattle.iso_text.specs.NumberedGroup.{Group, IsGroup, IsGenerated}
+use Rattle.algebra.specs.NumberedGroup.{Group, IsGroup, IsGenerated}
 use Rattle.cyclo24.specs.ExactField.{ExactField, Value, lift}
 use Rattle.lin_alg.specs.Matrices.{AreEqualBelow, apply, unit_entry, IsRepresentation}
 

@@ -3,10 +3,11 @@
 -- image-plus, image-same, image-product, image-identity: images of vectors
 -- fixed-plus, fixed-product: what is fixed
 -- fixed-generated: what the generators fix, each element fixes
-use Rattle.std.proofs.Common.{◌≡◌, ℕ, ◌<◌, sym, ◌∙◌, ap, subst, List, [], ◌∷◌, if◌then◌else◌}
+use Rattle.std.proofs.Common.{◌≡◌, ℕ, ◌<◌, sym, ◌∙◌, ap, if◌then◌else◌}
 use Rattle.std.specs.Cmp.{nat_eq_equiv}
 use Rattle.cyclo24.specs.ExactField.{ExactField, Value}
-use Rattle.iso_text.specs.NumberedGroup.{word, AllBelow}
+use Rattle.cyclo24.specs.ValueLaws.{value-set}
+use Rattle.algebra.specs.GeneratedLaws.{generated-holds}
 use Rattle.lin_alg.specs.Action.{Action, IsAction, IsFixed, entry_of, image}
 use Rattle.lin_alg.specs.EquationLaws.{dot-unit}
 use Rattle.lin_alg.specs.Equations.{unit_vector}
@@ -52,18 +53,12 @@ module _ (f : ExactField) (act : Action) where
       turned : (i j : ℕ) → unit_entry f.laws i j ≡ unit_vector f.laws i j
       turned i j = ap (λ b. if b then f.laws.unit else f.laws.nought) (nat_eq_equiv.symm i j)
 
-  word-below : IsAction f act → (is : List ℕ) → AllBelow act.generators is → word act.group.product act.generator is < act.group.order
-  word-below law [] a = law.group.identity_below
-  word-below law (i ∷ is) a = law.group.product_below (act.generator i) (word act.group.product act.generator is) (law.generator_below i a.0) (word-below law is a.1)
-
-  fixed-word : IsAction f act → (v : ℕ → Value f) → ((i : ℕ) → i < act.generators → IsFixed f act (act.generator i) v) → (is : List ℕ) → AllBelow act.generators is →
-      IsFixed f act (word act.group.product act.generator is) v
-  fixed-word law v h [] a = image-identity law v
-  fixed-word law v h (i ∷ is) a =
-      fixed-product law (act.generator i) (word act.group.product act.generator is) (law.generator_below i a.0) (word-below law is a.1) v (h i a.0) (fixed-word law v h is a.1)
+  -- one proof of each equation between exact values
+  fixed-prop : (q : ℕ) (v : ℕ → Value f) → IsProp (IsFixed f act q v)
+  fixed-prop q v h k = λ t i l. value-set f (image f act q v i) (v i) (h i l) (k i l) t
 
   -- what the generators fix, each element fixes
   pub fixed-generated : IsAction f act → (v : ℕ → Value f) → ((i : ℕ) → i < act.generators → IsFixed f act (act.generator i) v) → (q : ℕ) → q < act.group.order → IsFixed f act q v
-  fixed-generated law v h q l =
-      let w = law.generated q l in
-      subst (λ (z : ℕ). IsFixed f act z v) (sym w.2) (fixed-word law v h w.0 w.1)
+  fixed-generated law v h =
+      generated-holds act.group law.group act.generators act.generator law.generator_below law.generated (λ q. IsFixed f act q v) (λ q l. fixed-prop q v) (image-identity law v)
+      (λ i q li l k. fixed-product law (act.generator i) q (law.generator_below i li) l v (h i li) k)

@@ -10,7 +10,7 @@
 -- IsRepresentation f g d m: the matrices multiply as the group
 -- IsClassFunction g w: the same number on conjugate elements
 use Rattle.std.specs.Prelude.{◌≡◌, ℕ, ◌<◌, ◌/◌, ◌%◌, nat_eq, if◌then◌else◌}
-use Rattle.iso_text.specs.NumberedGroup.{Group}
+use Rattle.algebra.specs.NumberedGroup.{Group}
 use Rattle.cyclo24.specs.FieldOn.{FieldOn}
 use Rattle.cyclo24.specs.Sums.{total}
 

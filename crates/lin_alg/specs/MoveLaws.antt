@@ -4,7 +4,7 @@
 -- fixes-conjugate, fixes-moved, stabiliser-moved, fix-conjugate, stab-moved: images of fixed members, fixed spaces and stabilisers
 -- fix-antitone, stab-antitone, fix-stab-fix, stab-point, fix-same, stab-same: fixed members and stabilisers are a Galois connection
 use Rattle.std.proofs.Common.{◌≡◌, ◌↔◌, ◌<◌, ℕ, sym, ◌∙◌, ap, subst}
-use Rattle.iso_text.specs.NumberedGroupLaws.{product-identity, product-inverse}
+use Rattle.algebra.specs.NumberedGroupLaws.{product-identity, product-inverse}
 use Rattle.lin_alg.specs.Moves.{AreConjugateBy, AreMoves, FixOf, Fixes, Moves, StabOf, conjugate, moved}
 use Rattle.lin_alg.specs.Spans.{AreSame}
 

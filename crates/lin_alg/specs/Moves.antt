@@ -5,7 +5,7 @@
 -- moved g q U: q U; conjugate g q a: q a q^-1
 -- AreConjugateBy g q H K: K is q H q^-1
 use Rattle.std.specs.Prelude.{◌≡◌, ◌↔◌, ◌<◌, ℕ}
-use Rattle.iso_text.specs.NumberedGroup.{Group, IsGroup}
+use Rattle.algebra.specs.NumberedGroup.{Group, IsGroup}
 
 -- a numbered group that moves the members of a type
 pub record Moves (V : Type 0) : Type 0 where

@@ -4,8 +4,8 @@ use Rattle.space_ops.specs.declared.op.Op.{Op}
 use Rattle.space_ops.specs.declared.lattice.Lattice.{Lattice}
 use Rattle.space_ops.specs.declared.group.GroupError.{GroupError}
 use Rattle.space_ops.specs.declared.group.GroupError.TheVariants.{TooManyRotations, ExtraTranslation, NoMemory}
-use Rattle.space_ops.specs.Whole.{whole}
-use Rattle.space_ops.specs.WholeLaws.{whole_ring}
+use Rattle.algebra.specs.Whole.{whole}
+use Rattle.algebra.specs.WholeLaws.{whole_ring}
 use Rattle.space_ops.specs.Matrix.{matrix_times}
 use Rattle.space_ops.specs.MatrixLaws.{matrix_times-unit}
 use Rattle.space_ops.specs.Seitz.{Seitz, seitz_product, seitz_identity}

@@ -5,7 +5,7 @@ use Rattle.std.proofs.lemmas.List.{get_or_append_left, get_or_push}
 use Rattle.space_ops.proofs.KeepLemmas.{zero_least}
 use Rattle.space_ops.specs.declared.op.Op.{Op}
 use Rattle.space_ops.specs.declared.lattice.Lattice.{Lattice}
-use Rattle.space_ops.specs.Whole.{whole}
+use Rattle.algebra.specs.Whole.{whole}
 use Rattle.space_ops.specs.Seitz.{Seitz, seitz_product, seitz_identity}
 use Rattle.space_ops.specs.Op.{seitz_of, identity_op, IsWithin, IsSmallMatrix}
 use Rattle.space_ops.specs.Words.{op_at, vector_difference, IsLatticeVector, IsWord, HasTooManyRotations, HasExtraTranslation}

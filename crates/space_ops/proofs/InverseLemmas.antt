@@ -1,7 +1,7 @@
 -- The rows of an inverse matrix from cross products.
 use Rattle.std.proofs.Common.{◌≡◌, ◌∙◌, ℤ, ◌*ℤ◌, List, [], ◌∷◌, FitsSigned, w8}
 use Rattle.std.proofs.lemmas.Int.{to_z-of_z}
-use Rattle.space_ops.specs.Whole.{whole}
+use Rattle.algebra.specs.Whole.{whole}
 use Rattle.space_ops.specs.Matrix.{determinant}
 use Rattle.space_ops.specs.Seitz.{inverse_matrix}
 use Rattle.space_ops.specs.Op.{number_at, row_at, matrix_of, rows_of, cross_product}

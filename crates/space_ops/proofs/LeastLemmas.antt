@@ -8,27 +8,23 @@ use Rattle.std.specs.Ordering.{int_cmp, is_lt, ordering_reverse}
 use Rattle.std.specs.Cmp.Lexicographic.{slice_cmp}
 use Rattle.std.specs.declared.cmp.Ordering.{Ordering}
 use Rattle.std.specs.declared.cmp.Ordering.TheVariants.{Less, Equal, Greater}
+use Rattle.algebra.specs.MultipleLaws.{rem-whole}
 use Rattle.space_ops.specs.declared.lattice.Lattice.{Lattice}
-use Rattle.space_ops.specs.Whole.{whole}
+use Rattle.algebra.specs.Whole.{whole}
 use Rattle.space_ops.specs.Matrix.{Vector, vector_sum}
 use Rattle.space_ops.specs.MatrixLaws.{same_vector}
 use Rattle.space_ops.specs.Op.{number_at, vector_of, shift_of}
 use Rattle.space_ops.specs.Lattice.{centrings_of}
 use Rattle.space_ops.specs.Words.{cell_edges, vector_difference}
 use Rattle.space_ops.specs.LeastShift.{vector_cmp, IsTwelfth, IsInCell, IsFirstOfReduced, IsLeastArray, reduced_sum, earlier_of}
-use Rattle.space_ops.specs.LeastShiftLaws.{reduced-unique}
+use Rattle.space_ops.specs.LeastShiftLaws.{reduced-unique, twelfth-rem}
 
 triples : IsTotalOrder (slice_cmp int_cmp)
 triples = lists_total int_cmp_total
 
--- from 0 to 11, and the number without whole dozens
-reduced_twelfth : (z : ℤ) → IsTwelfth (int_rem_euclid z (pos 12))
-reduced_twelfth (pos a) = (omega (arith, ints), omega (arith, ints))
-reduced_twelfth (negsuc a) = (omega (arith, ints), omega (arith, ints))
-
+-- the number without whole dozens
 pub reduced_dozens : (z : ℤ) → (u : ℤ) × (int_rem_euclid z (pos 12) ≡ z +ℤ (pos 12 *ℤ u))
-reduced_dozens (pos a) = let k : 12 * (a / 12) + a % 12 ≡ a = omega arith in (neg_ℤ (pos (a / 12)), omega (arith, ints, k))
-reduced_dozens (negsuc a) = let k : 12 * (a / 12) + a % 12 ≡ a = omega arith in (pos (suc (a / 12)), omega (arith, ints, k))
+reduced_dozens z = rem-whole 12 (omega arith) z
 
 -- the edges that the reduction takes
 edges_of : (t c : List ℤ) → Vector ℤ
@@ -44,7 +40,7 @@ reduced_is t c =
     same_vector _ _ (reduced_dozens (number_at t 0 +ℤ number_at c 0)).1 (reduced_dozens (number_at t 1 +ℤ number_at c 1)).1 (reduced_dozens (number_at t 2 +ℤ number_at c 2)).1
 
 reduced_in_cell : (t c : List ℤ) → IsInCell (vector_of (reduced_sum t c))
-reduced_in_cell t c = (reduced_twelfth _, reduced_twelfth _, reduced_twelfth _)
+reduced_in_cell t c = (twelfth-rem _, twelfth-rem _, twelfth-rem _)
 
 -- q before r, r not after s: q is not after s
 before_not_after : (q r s : List ℤ) → slice_cmp int_cmp q r ≡ Less → (slice_cmp int_cmp r s ≡ Greater → ⊥) → slice_cmp int_cmp q s ≡ Greater → ⊥

@@ -1,7 +1,7 @@
 -- Signed numbers that were passed by value, read back.
 use Rattle.std.proofs.Common.{◌≡◌, ◌∙◌, ℤ, ◌+ℤ◌, ◌*ℤ◌, FitsSigned, w8, w32, to_z, of_z}
 use Rattle.std.proofs.lemmas.Int.{to_z-of_z}
-use Rattle.space_ops.specs.Whole.{whole}
+use Rattle.algebra.specs.Whole.{whole}
 use Rattle.space_ops.specs.Matrix.{row_times}
 
 abbrev pub passed : ℤ → ℤ
@@ -14,11 +14,3 @@ pub passed_row_times : (r a b c x y z : ℤ) → FitsSigned w8 r → FitsSigned 
     → r ≡ row_times whole a b c (passed x) (passed y) (passed z) → passed r ≡ row_times whole a b c x y z
 passed_row_times r a b c x y z k f g h e =
     to_z-of_z w8 r k ∙ e ∙ (λ i. row_times whole a b c (to_z-of_z w8 x f i) (to_z-of_z w8 y g i) (to_z-of_z w8 z h i))
-
-pub passed_long_sum : (r a b c a' b' c' : ℤ) → FitsSigned w32 r → FitsSigned w32 a → FitsSigned w32 b → FitsSigned w32 c → r ≡ (passed_long a +ℤ passed_long b) +ℤ passed_long c
-    → a ≡ a' → b ≡ b' → c ≡ c' → passed_long r ≡ (a' +ℤ b') +ℤ c'
-passed_long_sum r a b c a' b' c' k f g h e p q s =
-    to_z-of_z w32 r k ∙ e ∙ (λ i. ((to_z-of_z w32 a f ∙ p) i +ℤ (to_z-of_z w32 b g ∙ q) i) +ℤ (to_z-of_z w32 c h ∙ s) i)
-
-pub passed_long_product : (r a x : ℤ) → FitsSigned w8 a → FitsSigned w32 x → r ≡ passed a *ℤ passed_long x → r ≡ a *ℤ x
-passed_long_product r a x f g e = e ∙ (λ i. to_z-of_z w8 a f i *ℤ to_z-of_z w32 x g i)

@@ -3,7 +3,7 @@ use Rattle.std.proofs.Common.{refl, sym, subst, ℕ, ◌+◌, ◌<◌, inl, inr,
 use Rattle.std.proofs.lemmas.Int.{ints}
 use Rattle.space_ops.specs.declared.op.Op.{Op}
 use Rattle.space_ops.specs.declared.lattice.Lattice.{Lattice}
-use Rattle.space_ops.specs.Whole.{whole}
+use Rattle.algebra.specs.Whole.{whole}
 use Rattle.space_ops.specs.Seitz.{Seitz, seitz_inverse}
 use Rattle.space_ops.specs.Op.{seitz_of, vector_of, identity_op, IsSmallMatrix, IsUnimodular, IsWithin, IsShiftWithin}
 use Rattle.space_ops.specs.OpLaws.{inverse_unimodular}

@@ -15,7 +15,7 @@ use Rattle.space_ops.specs.declared.op.Op.{Op}
 use Rattle.space_ops.specs.declared.lattice.Lattice.{Lattice}
 use Rattle.space_ops.specs.declared.group.GroupError.{GroupError}
 use Rattle.space_ops.specs.declared.group.GroupError.TheVariants.{TooManyRotations, ExtraTranslation, NoMemory}
-use Rattle.space_ops.specs.Whole.{whole}
+use Rattle.algebra.specs.Whole.{whole}
 use Rattle.space_ops.specs.Matrix.{Matrix}
 use Rattle.space_ops.specs.Seitz.{Seitz, seitz_identity}
 use Rattle.space_ops.specs.Op.{identity_op, rows_of, IsSmallMatrix, IsUnimodular}

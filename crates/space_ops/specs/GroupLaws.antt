@@ -17,11 +17,11 @@ use Rattle.std.specs.Ordering.{int_cmp, is_eq}
 use Rattle.std.specs.Cmp.Lexicographic.{slice_cmp}
 use Rattle.std.specs.declared.cmp.Ordering.{Ordering}
 use Rattle.std.specs.declared.cmp.Ordering.TheVariants.{Less, Equal, Greater}
-use Rattle.iso_text.specs.NumberedGroup.{Group, IsGroup}
+use Rattle.algebra.specs.NumberedGroup.{Group, IsGroup}
 use Rattle.space_ops.specs.declared.op.Op.{Op}
 use Rattle.space_ops.specs.declared.lattice.Lattice.{Lattice}
-use Rattle.space_ops.specs.Whole.{whole}
-use Rattle.space_ops.specs.WholeLaws.{whole_ring}
+use Rattle.algebra.specs.Whole.{whole}
+use Rattle.algebra.specs.WholeLaws.{whole_ring}
 use Rattle.space_ops.specs.Matrix.{Matrix, Vector, matrix_times, image_under, vector_sum, unit_matrix}
 use Rattle.space_ops.specs.MatrixLaws.{same_vector, matrix_times-unit, matrix_times-assoc, unit-matrix_times}
 use Rattle.space_ops.specs.Seitz.{Seitz, seitz_product, seitz_inverse, seitz_identity, inverse_matrix}
@@ -31,7 +31,7 @@ use Rattle.space_ops.specs.Words.{op_at, vector_difference, IsLatticeVector, Are
 use Rattle.space_ops.specs.WordLaws.{AreUnimodular, translation, word-product, word-inverse, word-lattice, more_less}
 use Rattle.space_ops.specs.LeastShiftLaws.{lists_exact}
 use Rattle.space_ops.specs.Group.{Parent, IsListed, IsParentGroup, matrix_cmp}
-use Rattle.space_ops.specs.Pigeonhole.{pigeonhole}
+use Rattle.algebra.specs.Pigeonhole.{pigeonhole}
 
 -- r is the rotation of a listed operation
 abbrev pub HasRotation : List Op → Matrix ℤ → Type 0

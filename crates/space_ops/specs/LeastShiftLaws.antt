@@ -3,18 +3,22 @@
 -- vector_cmp-total, vector_cmp-equal: a total order, that answers Equal at equal vectors alone
 -- least-unique: translations that differ by a lattice vector have one least translation
 -- least-itself: a least translation is its own
+-- twelfth-rem: a remainder by 12 is from 0 to 11
 -- reduced-unique: two sums in the cell that differ by whole cell edges are equal
 use Rattle.std.proofs.Common.{◌≡◌, refl, sym, ap, ◌∙◌, ℤ, pos, ◌+ℤ◌, ◌*ℤ◌, List, [], ◌∷◌, arith}
 use Rattle.std.proofs.lemmas.Int.{ints}
 use Rattle.std.proofs.lemmas.Cmp.{lists_total, on_total, int_cmp_total}
 use Rattle.std.proofs.lemmas.Map.Lookups.{exact_signed}
+use Rattle.std.specs.Int.{int_rem_euclid}
 use Rattle.std.specs.Cmp.{IsTotalOrder}
 use Rattle.std.specs.Ordering.{int_cmp, ordering_then, ordering_reverse}
 use Rattle.std.specs.Cmp.Lexicographic.{slice_cmp}
 use Rattle.std.specs.declared.cmp.Ordering.{Ordering}
 use Rattle.std.specs.declared.cmp.Ordering.TheVariants.{Less, Equal, Greater}
 use Rattle.space_ops.specs.declared.lattice.Lattice.{Lattice}
-use Rattle.space_ops.specs.Whole.{whole}
+use Rattle.algebra.specs.Multiples.{IsWithinModulus}
+use Rattle.algebra.specs.MultipleLaws.{rem-within}
+use Rattle.algebra.specs.Whole.{whole}
 use Rattle.space_ops.specs.Matrix.{Vector, vector_sum}
 use Rattle.space_ops.specs.MatrixLaws.{same_vector}
 use Rattle.space_ops.specs.Op.{shift_of}
@@ -63,6 +67,12 @@ least-itself lattice t r a = record {
   same = differ-refl lattice r;
   least = λ s c h. a.least s c (differ-trans lattice s r t h a.same);
 }
+
+-- a remainder by 12
+pub twelfth-rem : (z : ℤ) → IsTwelfth (int_rem_euclid z (pos 12))
+twelfth-rem z = by_within (int_rem_euclid z (pos 12)) (rem-within 12 (omega arith) z) where
+  by_within : (r : ℤ) → IsWithinModulus 12 r → IsTwelfth r
+  by_within r h = (h.0, omega (arith, ints, h.1))
 
 -- numbers of twelfths in one cell that differ by whole edges
 twelfth_unique : (x y u : ℤ) → IsTwelfth x → IsTwelfth y → x ≡ y +ℤ (pos 12 *ℤ u) → x ≡ y

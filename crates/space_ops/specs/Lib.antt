@@ -1,7 +1,3 @@
-pub mod Ring
-pub mod Whole
-pub mod WholeLaws
-pub mod Solve
 pub mod Matrix
 pub mod MatrixLaws
 pub mod Seitz
@@ -10,6 +6,7 @@ pub mod OpLaws
 pub mod OpText
 pub mod OpTextLaws
 pub mod Lattice
+pub mod LetterLaws
 pub mod Words
 pub mod LatticeLaws
 pub mod WordLaws
@@ -19,6 +16,5 @@ pub mod Group
 pub mod Closing
 pub mod Order
 pub mod GroupView
-pub mod Pigeonhole
 pub mod GroupLaws
 pub mod ListUnique

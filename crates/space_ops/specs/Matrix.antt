@@ -6,7 +6,7 @@
 -- vector_sum o v w, minus_vector o v, zero_vector o: of columns
 -- unit_matrix o, scaled o c a: the unit matrix; c times a
 -- determinant o a, adjugate o a: det a; the matrix with a (adjugate a) = det a
-use Rattle.space_ops.specs.Ring.{Ops}
+use Rattle.algebra.specs.Ring.{Ops}
 
 pub record Vector (A : Type 0) : Type 0 where
   pub x : A

@@ -6,8 +6,9 @@
 -- image_under-product, image_under-minus, image_under-zero, zero-image_under, image_under-sum, image_under-difference: images of columns
 -- less_itself, minus_and_itself, scaled-one, square_of_product: small equations
 use Rattle.std.proofs.Common.{◌≡◌, ℕ, refl, [], ◌∷◌, true}
-use Rattle.space_ops.specs.Ring.{Ops, IsRing}
-use Rattle.space_ops.specs.Solve.{Exp, V, K, Mul, exps, at, solve, same, value}
+use Rattle.algebra.specs.Ring.{Ops, IsRing}
+use Rattle.algebra.specs.Solve.{Exp, V, K, Mul, exps, at, same, value}
+use Rattle.algebra.specs.SolveLaws.{solve}
 use Rattle.space_ops.specs.Matrix.{Matrix, Vector, matrix_times, image_under, vector_sum, minus_vector, unit_matrix, zero_vector, determinant, adjugate, scaled}
 
 pub same_matrix : {A : Type 0} (a b : Matrix A) → a.r00 ≡ b.r00 → a.r01 ≡ b.r01 → a.r02 ≡ b.r02 → a.r10 ≡ b.r10 → a.r11 ≡ b.r11 → a.r12 ≡ b.r12 → a.r20 ≡ b.r20 → a.r21 ≡ b.r21 → a.r22 ≡ b.r22 → a ≡ b

@@ -9,8 +9,8 @@
 -- seitz-back, back-seitz, seitz_product-assoc, seitz_product-identity, identity-seitz_product: the same of Seitz operations
 use Rattle.std.proofs.Common.{◌≡◌, refl, sym, ap, ◌∙◌, ℤ, pos, ◌*ℤ◌}
 use Rattle.space_ops.specs.declared.op.Op.{Op}
-use Rattle.space_ops.specs.Whole.{whole}
-use Rattle.space_ops.specs.WholeLaws.{whole_ring}
+use Rattle.algebra.specs.Whole.{whole}
+use Rattle.algebra.specs.WholeLaws.{whole_ring}
 use Rattle.space_ops.specs.Matrix.{Matrix, matrix_times, image_under, vector_sum, minus_vector, unit_matrix, determinant, scaled}
 use Rattle.space_ops.specs.MatrixLaws.{matrix_times-assoc, matrix_times-unit, unit-matrix_times, zero-image_under, image_under-zero, matrix_times-adjugate, adjugate-matrix_times, determinant-matrix_times, image_under-product, image_under-minus, less_itself, minus_and_itself, scaled-one, square_of_product}
 use Rattle.space_ops.specs.Seitz.{Seitz, seitz_product, seitz_inverse, seitz_identity, inverse_matrix}

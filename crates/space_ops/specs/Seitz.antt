@@ -4,7 +4,7 @@
 -- seitz_product o g h: {R|t}{S|s} = {RS | t + R s}
 -- seitz_inverse o g: {R^-1 | -R^-1 t}, where the determinant of R is 1 or -1
 -- seitz_identity o: {E|0}
-use Rattle.space_ops.specs.Ring.{Ops}
+use Rattle.algebra.specs.Ring.{Ops}
 use Rattle.space_ops.specs.Matrix.{Matrix, Vector, matrix_times, image_under, vector_sum, minus_vector, zero_vector, unit_matrix, scaled, determinant, adjugate}
 
 pub record Seitz (A : Type 0) : Type 0 where

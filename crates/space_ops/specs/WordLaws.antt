@@ -12,8 +12,8 @@ use Rattle.std.proofs.Common.{◌≡◌, refl, sym, ap, ◌∙◌, subst, ℕ, �
 use Rattle.std.proofs.lemmas.Int.{ints}
 use Rattle.space_ops.specs.declared.op.Op.{Op}
 use Rattle.space_ops.specs.declared.lattice.Lattice.{Lattice}
-use Rattle.space_ops.specs.Whole.{whole}
-use Rattle.space_ops.specs.WholeLaws.{whole_ring}
+use Rattle.algebra.specs.Whole.{whole}
+use Rattle.algebra.specs.WholeLaws.{whole_ring}
 use Rattle.space_ops.specs.Matrix.{Vector, matrix_times, image_under, vector_sum, minus_vector, zero_vector, unit_matrix}
 use Rattle.space_ops.specs.MatrixLaws.{same_vector, matrix_times-unit, unit-matrix_times, image_under-difference}
 use Rattle.space_ops.specs.Seitz.{Seitz, seitz_product, seitz_inverse, seitz_identity}

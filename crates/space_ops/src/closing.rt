@@ -3,7 +3,7 @@
 // Each product of a held operation and a step is formed once: at most 48 operations times 10 steps,
 // 480 products in all.
 ghost use Rattle.std.specs.Prelude.{◌≡◌, ℕ, ◌<◌, ◌≤◌, ◌⊎◌, true, false, IfOk, IfErr, [], ◌∷◌, ◌+◌, length, slice_index_or};
-ghost use Rattle.space_ops.specs.Whole.{whole};
+ghost use Rattle.algebra.specs.Whole.{whole};
 ghost use Rattle.space_ops.specs.Seitz.{seitz_product};
 ghost use Rattle.space_ops.specs.Op.{seitz_of, matrix_of, vector_of, identity_op, IsSmallMatrix};
 ghost use Rattle.space_ops.specs.Words.{op_at, HasTooManyRotations};

@@ -1,6 +1,6 @@
 // Whether rotations keep a lattice.
 ghost use Rattle.std.specs.Prelude.{◌≡◌, ℕ, ◌<◌, ◌↔◌, IsTrue, true, false, length, slice_index_or, []};
-ghost use Rattle.space_ops.specs.Whole.{whole};
+ghost use Rattle.algebra.specs.Whole.{whole};
 ghost use Rattle.space_ops.specs.Matrix.{image_under};
 ghost use Rattle.space_ops.specs.Op.{matrix_of, vector_of, IsSmallMatrix, IsShiftWithin};
 ghost use Rattle.space_ops.specs.Words.{op_at, IsLatticeVector};

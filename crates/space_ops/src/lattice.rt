@@ -1,6 +1,6 @@
 // The lattices of the Hall symbols.
-ghost use Rattle.std.specs.Prelude.{◌≡◌, ◌<◌, length, true, false};
-ghost use Rattle.space_ops.specs.Lattice.{centrings_of};
+ghost use Rattle.std.specs.Prelude.{◌≡◌, ◌<◌, ℕ, length, true, false, Some};
+ghost use Rattle.space_ops.specs.Lattice.{centrings_of, letter_of, lattice_of};
 ghost use Rattle.space_ops.specs.Op.{vector_of};
 ghost use Rattle.space_ops.specs.Words.{IsLatticeVector};
 
@@ -46,6 +46,38 @@ impl Lattice {
         }
         vectors
     }
+
+    /// The letter in a Hall symbol.
+    pub fn letter(self) -> u8
+        ensures { result ≡ letter_of self }
+    {
+        match self {
+            Lattice::P => b'P',
+            Lattice::A => b'A',
+            Lattice::B => b'B',
+            Lattice::C => b'C',
+            Lattice::I => b'I',
+            Lattice::R => b'R',
+            Lattice::F => b'F',
+        }
+    }
+
+    /// The lattice with this letter. `None` for each byte that is none of P, A, B, C, I, R, F.
+    pub fn from_letter(letter: u8) -> Option<Lattice>
+        ensures { result ≡ lattice_of letter }
+    {
+        match letter {
+            b'P' => Some(Lattice::P),
+            b'A' => Some(Lattice::A),
+            b'B' => Some(Lattice::B),
+            b'C' => Some(Lattice::C),
+            b'I' => Some(Lattice::I),
+            b'R' => Some(Lattice::R),
+            b'F' => Some(Lattice::F),
+            _ => None,
+        }
+    }
+
     /// Whether a translation in twelfths is one of the lattice: a centring vector and whole cell edges.
     pub fn contains(self, shift: [i32; 3]) -> bool
         ensures yes { result ≡ true → IsLatticeVector self (vector_of shift) }
@@ -54,3 +86,10 @@ impl Lattice {
         is_same_shift(least_shift(reduced_shift(shift), self), [0, 0, 0])
     }
 }
+
+/// A lattice is that of its letter, and a letter is that of the lattice that it names.
+#[tactic(auto, using(crate::specs::LetterLaws::letter-back, crate::specs::LetterLaws::lattice-letter))]
+pub fn law_of_letters()
+    ensures back { (lattice : Lattice) → lattice_of (letter_of lattice) ≡ Some lattice }
+    ensures only { (letter : ℕ) (lattice : Lattice) → lattice_of letter ≡ Some lattice → letter ≡ letter_of lattice }
+{}

@@ -23,7 +23,7 @@ mod shift;
 mod steps;
 
 pub use group::{Group, GroupError};
-pub use lattice::Lattice;
+pub use lattice::{Lattice, law_of_letters};
 pub use op::{Op, TWELFTHS};
 
 #[cfg(test)]

@@ -1,6 +1,6 @@
 // Products and inverses of 3 by 3 matrices of small whole numbers.
 ghost use Rattle.std.specs.Prelude.{◌≡◌, ◌+ℤ◌, ◌*ℤ◌, neg_ℤ, [], ◌∷◌};
-ghost use Rattle.space_ops.specs.Whole.{whole};
+ghost use Rattle.algebra.specs.Whole.{whole};
 ghost use Rattle.space_ops.specs.Matrix.{row_times, matrix_times, image_under, minor, determinant};
 ghost use Rattle.space_ops.specs.Seitz.{inverse_matrix};
 ghost use Rattle.space_ops.specs.Op.{number_at, row_at, matrix_of, vector_of, rows_of, shift_of, product_row, cross_product, IsWithin, IsShiftWithin, IsRotationWithin, IsSmallRotation, IsUnimodular};

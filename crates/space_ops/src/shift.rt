@@ -1,6 +1,6 @@
 // Sums of translations.
 ghost use Rattle.std.specs.Prelude.{◌≡◌, ◌+ℤ◌, ◌*ℤ◌, neg_ℤ};
-ghost use Rattle.space_ops.specs.Whole.{whole};
+ghost use Rattle.algebra.specs.Whole.{whole};
 ghost use Rattle.space_ops.specs.Matrix.{row_times, vector_sum, minus_vector};
 ghost use Rattle.space_ops.specs.Op.{number_at, vector_of, shift_of, IsWithin, IsShiftWithin};
 

@@ -1,6 +1,6 @@
 // The steps that a group is closed under: its generators and their inverses.
 ghost use Rattle.std.specs.Prelude.{◌≡◌, ℕ, ◌<◌, ◌≤◌, ◌+◌, IfOk, IfErr, OnOk, length};
-ghost use Rattle.space_ops.specs.Whole.{whole};
+ghost use Rattle.algebra.specs.Whole.{whole};
 ghost use Rattle.space_ops.specs.Seitz.{seitz_inverse};
 ghost use Rattle.space_ops.specs.Op.{seitz_of, IsSmallMatrix, IsUnimodular};
 ghost use Rattle.space_ops.specs.Words.{HasTooManyRotations};

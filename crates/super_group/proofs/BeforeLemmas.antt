@@ -4,6 +4,7 @@ use Rattle.std.proofs.lemmas.Int.{ints, by_lt_z}
 use Rattle.std.proofs.lemmas.Bool.{cases_lt}
 use Rattle.std.proofs.lemmas.List.{length_push, get_or_push, get_or_append_left}
 use Rattle.std.specs.declared.cmp.Ordering.TheVariants.{Less}
+use Rattle.algebra.specs.ListLaws.{each-more, pairs-more}
 use Rattle.space_ops.specs.declared.lattice.Lattice.{Lattice}
 use Rattle.space_ops.specs.Matrix.{Vector}
 use Rattle.space_ops.specs.MatrixLaws.{same_vector}
@@ -52,25 +53,6 @@ none_before : (d : List ℕ) (v : Vector ℤ) → IsInside d v → IsBefore 0 0 
 none_before d v n (inl l) = omega (arith, ints, l, n.0.0)
 none_before d v n (inr (e, inl l)) = omega (arith, ints, l, n.1.0)
 none_before d v n (inr (e, inr (f, l))) = omega (arith, ints, l, n.2.0)
-
--- what holds of each of a list and of one more
-each_push : (Q : List ℤ → Type 0) (ts : List (List ℤ)) (p : List ℤ) → ((t : ℕ) → t < length ts → Q (get_or ts t [])) → Q p
-    → (t : ℕ) → t < length (ts ++ p ∷ []) → Q (get_or (ts ++ p ∷ []) t [])
-each_push Q ts p h k t l =
-    ⊎_elim
-    (λ m. subst Q (sym (get_or_append_left ts (p ∷ []) [] t m)) (h t m))
-    (λ m. subst Q (sym (get_or_push ts p [] t (omega (arith, length_push ts p)))) k)
-    (cases_lt t (length ts))
-
-pairs_push : (Q : List ℤ → List ℤ → Type 0) (ts : List (List ℤ)) (p : List ℤ) → ((s t : ℕ) → s < t → t < length ts → Q (get_or ts s []) (get_or ts t []))
-    → ((s : ℕ) → s < length ts → Q (get_or ts s []) p) → (s t : ℕ) → s < t → t < length (ts ++ p ∷ []) → Q (get_or (ts ++ p ∷ []) s []) (get_or (ts ++ p ∷ []) t [])
-pairs_push Q ts p h k s t b l =
-    let m : s < length ts = omega (arith, length_push ts p) in
-    subst (λ (a : List ℤ). Q a (get_or (ts ++ p ∷ []) t [])) (sym (get_or_append_left ts (p ∷ []) [] s m))
-    (⊎_elim
-    (λ n. subst (Q (get_or ts s [])) (sym (get_or_append_left ts (p ∷ []) [] t n)) (h s t b n))
-    (λ n. subst (Q (get_or ts s [])) (sym (get_or_push ts p [] t (omega (arith, length_push ts p)))) (k s m))
-    (cases_lt t (length ts)))
 
 module _ (lattice : Lattice) (d : List ℕ) where
   -- another point that has the same lattice translations before it
@@ -135,13 +117,13 @@ module _ (lattice : Lattice) (d : List ℕ) where
   point-more x y z ts bx by bz is h =
       let p = twelfths x y z in
       record {
-        in_lattice = each_push (λ q. IsLatticeVector lattice (vector_of q)) ts p h.in_lattice is;
-        inside = each_push (λ q. IsInside d (vector_of q)) ts p h.inside (point_inside x y z bx by bz);
-        before = each_push (λ q. IsBefore x y (z + 1) (vector_of q)) ts p (λ t l. later_z x y z (translation_at ts t) (h.before t l)) (inr (refl, inr (refl, omega (arith, ints))));
-        rising = pairs_push (λ a b. vector_cmp (vector_of a) (vector_of b) ≡ Less) ts p h.rising (λ s l. before_cmp x y z (translation_at ts s) (h.before s l));
+        in_lattice = each-more (λ q. IsLatticeVector lattice (vector_of q)) ts p [] h.in_lattice is;
+        inside = each-more (λ q. IsInside d (vector_of q)) ts p [] h.inside (point_inside x y z bx by bz);
+        before = each-more (λ q. IsBefore x y (z + 1) (vector_of q)) ts p [] (λ t l. later_z x y z (translation_at ts t) (h.before t l)) (inr (refl, inr (refl, omega (arith, ints))));
+        rising = pairs-more (λ a b. vector_cmp (vector_of a) (vector_of b) ≡ Less) ts p [] h.rising (λ s l. before_cmp x y z (translation_at ts s) (h.before s l));
         every = λ v m n b. ⊎_elim
             (λ k. let w = h.every v m n k in let l : w.0 < length ts = w.1 in (w.0, omega (arith, length_push ts p), ap vector_of (get_or_append_left ts (p ∷ []) [] w.0 l) ∙ w.2))
             (λ e. (length ts, omega (arith, length_push ts p), ap vector_of (get_or_push ts p [] (length ts) refl) ∙ sym e))
             (last_z x y z v b);
-        shaped = each_push (λ q. q ≡ shift_of (vector_of q)) ts p h.shaped refl;
+        shaped = each-more (λ q. q ≡ shift_of (vector_of q)) ts p [] h.shaped refl;
       }

@@ -2,7 +2,7 @@
 use Rattle.std.proofs.Common.{◌≡◌, sym, ap, ◌∙◌, subst, ℕ, ◌<◌, ◌≤◌, ◌+◌, ◌*◌, ◌/◌, ◌%◌, ℤ, List, [], length, get_or, arith}
 use Rattle.std.proofs.lemmas.Int.{ints}
 use Rattle.space_ops.specs.declared.op.Op.{Op}
-use Rattle.space_ops.specs.Whole.{whole}
+use Rattle.algebra.specs.Whole.{whole}
 use Rattle.space_ops.specs.Matrix.{Vector, vector_sum}
 use Rattle.space_ops.specs.Op.{vector_of, shift_of, matrix_of, rows_of, seitz_of, op_of, identity_op, product_of, inverse_of, IsWithin, IsShiftWithin, IsSmallRotation, IsUnimodular}
 use Rattle.space_ops.specs.Seitz.{Seitz, seitz_product, seitz_inverse}

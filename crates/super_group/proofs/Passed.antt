@@ -13,12 +13,3 @@ passed_sum r x y m n k f g e h = to_z-of_z w32 r k ∙ h ∙ (λ i. int_rem_eucl
 pub passed_difference : (r x y : ℤ) (m n : ℕ) → FitsSigned w32 r → FitsSigned w32 x → FitsSigned w32 y → m ≡ n
     → r ≡ int_rem_euclid (passed x +ℤ neg_ℤ (passed y)) (pos (12 * m)) → passed r ≡ int_rem_euclid (x +ℤ neg_ℤ y) (pos (12 * n))
 passed_difference r x y m n k f g e h = to_z-of_z w32 r k ∙ h ∙ (λ i. int_rem_euclid (to_z-of_z w32 x f i +ℤ neg_ℤ (to_z-of_z w32 y g i)) (pos (12 * e i)))
-
-pub same_triple : (x y z x' y' z' : ℤ) → x ≡ x' → y ≡ y' → z ≡ z' → x ∷ y ∷ z ∷ [] ≡ x' ∷ y' ∷ z' ∷ []
-same_triple x y z x' y' z' e f g = λ i. e i ∷ f i ∷ g i ∷ []
-
--- a place of a list, whatever stands for the others
-pub same_at : {A : Type 0} (d : List A) (i : ℕ) (a b : A) → i < length d → get_or d i a ≡ get_or d i b
-same_at [] i a b l = absurd (omega arith)
-same_at (x ∷ d) zero a b l = refl
-same_at (x ∷ d) (suc i) a b l = same_at d i a b (omega arith)

@@ -14,7 +14,7 @@ use Rattle.space_ops.specs.LeastShiftLaws.{lists_exact}
 use Rattle.super_group.specs.Quotient.{place_among}
 use Rattle.super_group.specs.QuotientParts.{IsRisingList, IsAmong}
 use Rattle.super_group.specs.PlaceLaws.{place_among-at}
-use Rattle.super_group.proofs.Passed.{same_at}
+use Rattle.std.proofs.lemmas.List.{get_or_default}
 
 triples : IsTotalOrder (slice_cmp int_cmp)
 triples = lists_total int_cmp_total
@@ -29,7 +29,7 @@ module _ (ts : List (List ℤ)) (v : List ℤ) (h : IsRisingList ts) (triple : v
       let high = get_or ts (k + 1) [] in
       let e : slice_cmp int_cmp low high ≡ Less =
       (λ i. slice_cmp int_cmp (h.shaped k (omega arith) i) (h.shaped (k + 1) m i)) ∙ h.rising k (k + 1) (omega arith) m in
-      (λ i. is_lt (slice_cmp int_cmp (same_at ts (k + 1) d [] m i) (same_at ts k d [] (omega arith) i)))
+      (λ i. is_lt (slice_cmp int_cmp (get_or_default ts (k + 1) d [] m i) (get_or_default ts k d [] (omega arith) i)))
       ∙ ap is_lt (triples.antisymm high low ∙ ap ordering_reverse e)
 
   pub not_missing : IsAmong ts (vector_of v) → (i : ℕ)

@@ -7,11 +7,11 @@
 use Rattle.std.proofs.Common.{◌≡◌, refl, sym, ap, ◌∙◌, subst, ℕ, zero, suc, ◌<◌, inl, inr, ℤ, pos, negsuc, ◌+ℤ◌, ◌*ℤ◌, neg_ℤ, List, [], ◌∷◌, length, slice_index_or, arith}
 use Rattle.std.proofs.lemmas.Int.{ints}
 use Rattle.std.proofs.lemmas.List.{length-map, get_or-map}
-use Rattle.iso_text.specs.NumberedGroup.{IsGroup, IsGenerated}
-use Rattle.iso_text.specs.NumberedGroupLaws.{product-inverse, cancel}
+use Rattle.algebra.specs.NumberedGroup.{IsGroup, IsGenerated, HasWord}
+use Rattle.algebra.specs.NumberedGroupLaws.{product-inverse, cancel}
 use Rattle.space_ops.specs.declared.lattice.Lattice.{Lattice}
 use Rattle.space_ops.specs.declared.lattice.Lattice.TheVariants.{P, A, B, C, I, R, F}
-use Rattle.space_ops.specs.Whole.{whole}
+use Rattle.algebra.specs.Whole.{whole}
 use Rattle.space_ops.specs.Matrix.{Vector, vector_sum, minus_vector, zero_vector}
 use Rattle.space_ops.specs.MatrixLaws.{same_vector}
 use Rattle.space_ops.specs.Seitz.{Seitz, seitz_product, seitz_inverse, seitz_identity}
@@ -22,7 +22,7 @@ use Rattle.space_ops.specs.WordLaws.{translation, word-step, word-lattice}
 use Rattle.space_ops.specs.LatticeLaws.{zero-lattice, sum-lattice, minus-lattice, centring-lattice}
 use Rattle.super_group.specs.Quotient.{SupercellGroup, IsQuotient, IsMember, IsNumbered, order_of, element_of, number_of, quotient_group, motions_of, generators_of}
 use Rattle.super_group.specs.QuotientLaws.{quotient-numbered, quotient-lawful, number-product, number-identity}
-use Rattle.super_group.specs.GeneratedLaws.{HasWord, identity-word, generator-word, product-word, inverse-word}
+use Rattle.algebra.specs.GeneratedLaws.{identity-word, generator-word, product-word, inverse-word}
 use Rattle.super_group.specs.MotionLaws.{motion_at, IsMotion, generator-motion, centring-motion, unit-motion, unit-lattice, motion-member}
 
 -- what holds of 12 along an axis, of sums and of opposites holds of each multiple

@@ -1,7 +1,6 @@
 pub mod CountLaws
 pub mod FirstAxes
 pub mod FirstAxesLaws
-pub mod GeneratedLaws
 pub mod GeneratorLaws
 pub mod JoinedLaws
 pub mod MotionLaws

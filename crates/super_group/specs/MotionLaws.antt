@@ -6,7 +6,7 @@
 -- motion-member: each motion belongs to the parent group
 use Rattle.std.proofs.Common.{◌≡◌, refl, sym, ap, ◌∙◌, subst, ℕ, zero, suc, ◌<◌, ◌+◌, inl, ℤ, pos, List, [], ◌∷◌, ◌++◌, length, get_or, drop, map, arith}
 use Rattle.std.proofs.lemmas.List.{length-append, length-map, length-drop, get_or_append_left, get_or-append-add, get_or-drop, get_or-map}
-use Rattle.space_ops.specs.Whole.{whole}
+use Rattle.algebra.specs.Whole.{whole}
 use Rattle.space_ops.specs.Matrix.{unit_matrix, zero_vector}
 use Rattle.space_ops.specs.Seitz.{Seitz, seitz_identity}
 use Rattle.space_ops.specs.Op.{vector_of, seitz_of, identity_op}

@@ -3,7 +3,8 @@
 -- multipliers-unique: a group and denominators have one list of multipliers
 -- multiplier-divides: each multiplier divides every common multiple
 use Rattle.std.proofs.Common.{◌≡◌, refl, sym, ap, ◌∙◌, ℕ, zero, suc, ◌<◌, ◌≤◌, ◌+◌, ◌*◌, ◌/◌, ◌%◌, List, arith}
-use Rattle.std.proofs.Math.Nat.{div-add-mod, mod-lt, mul_assoc, add-mul-mod_self_left}
+use Rattle.std.proofs.Math.Nat.{mod-lt}
+use Rattle.algebra.specs.MultipleLaws.{rem-common}
 use Rattle.space_ops.specs.declared.op.Op.{Op}
 use Rattle.super_group.specs.Supercell.{multiplier}
 use Rattle.super_group.specs.Multipliers.{AreMultipliers, IsCommonMultiple, denominator}
@@ -14,15 +15,6 @@ multipliers-unique ops dens d e h k i l =
     let b : multiplier e i ≤ multiplier d i = k.least i (multiplier d i) l (h.positive i l) (h.common i l) in
     omega (arith, a, b)
 
--- what divides two numbers divides the remainder of one by the other
-remainder_multiple : (m d n : ℕ) → m % n ≡ 0 → d % n ≡ 0 → (m % d) % n ≡ 0
-remainder_multiple m d n h k =
-    let t = d / n * (m / d) in
-    let e : d ≡ n * (d / n) = omega (arith, k, div-add-mod d n) in
-    let f : d * (m / d) ≡ n * t = ap (λ x. x * (m / d)) e ∙ mul_assoc n (d / n) (m / d) in
-    let g : m % d + n * t ≡ m = omega (arith, f, div-add-mod m d) in
-    sym (add-mul-mod_self_left (m % d) n t) ∙ ap (λ x. x % n) g ∙ h
-
 pub multiplier-divides : (ops : List Op) (dens : List (List ℕ)) (d : List ℕ) → AreMultipliers ops dens d → (i m : ℕ) → i < 3 → IsCommonMultiple ops dens i m → m % multiplier d i ≡ 0
 multiplier-divides ops dens d h i m l c = by_remainder (m % multiplier d i) refl where
   by_remainder : (r : ℕ) → r ≡ m % multiplier d i → r ≡ 0
@@ -31,5 +23,5 @@ multiplier-divides ops dens d h i m l c = by_remainder (m % multiplier d i) refl
       let less : m % multiplier d i < multiplier d i = mod-lt m {m = multiplier d i} (h.positive i l) in
       let some : 0 < m % multiplier d i = omega (arith, e) in
       let most : multiplier d i ≤ m % multiplier d i =
-      h.least i (m % multiplier d i) l some (λ n j p q t. remainder_multiple m (multiplier d i) (denominator dens n j) (c n j p q t) (h.common i l n j p q t)) in
+      h.least i (m % multiplier d i) l some (λ n j p q t. rem-common m (multiplier d i) (denominator dens n j) (c n j p q t) (h.common i l n j p q t)) in
       absurd (omega (arith, less, most))

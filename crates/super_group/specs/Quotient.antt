@@ -15,9 +15,9 @@
 use Rattle.std.specs.Prelude.{◌≡◌, ℕ, suc, ◌<◌, ◌+◌, ◌*◌, ◌/◌, ◌%◌, ℤ, List, [], ◌∷◌, ◌++◌, drop, map, length, slice_index_or, if◌then◌else◌}
 use Rattle.std.specs.declared.cmp.Ordering.TheVariants.{Less}
 use Rattle.std.specs.Ordering.{is_eq}
-use Rattle.iso_text.specs.NumberedGroup.{Group}
+use Rattle.algebra.specs.NumberedGroup.{Group}
 use Rattle.space_ops.specs.declared.lattice.Lattice.{Lattice}
-use Rattle.space_ops.specs.Whole.{whole}
+use Rattle.algebra.specs.Whole.{whole}
 use Rattle.space_ops.specs.Matrix.{Vector, vector_sum, unit_matrix}
 use Rattle.space_ops.specs.Seitz.{Seitz, seitz_product, seitz_inverse}
 use Rattle.space_ops.specs.Op.{vector_of, shift_of, seitz_of}

@@ -10,7 +10,7 @@
 use Rattle.std.proofs.Common.{◌≡◌, refl, sym, ap, ◌∙◌, subst, ℕ, zero, suc, ◌<◌, ◌+◌, ◌*◌, ◌/◌, ◌%◌, ℤ, length, arith}
 use Rattle.std.proofs.lemmas.Int.{ints}
 use Rattle.std.proofs.lemmas.Nat.{mul-add-lt, div-mul-add, mod-mul-add, div-add-mod', div_below, mod_below}
-use Rattle.space_ops.specs.Whole.{whole}
+use Rattle.algebra.specs.Whole.{whole}
 use Rattle.space_ops.specs.Matrix.{Vector, vector_sum, zero_vector}
 use Rattle.space_ops.specs.MatrixLaws.{same_vector}
 use Rattle.space_ops.specs.Seitz.{Seitz, seitz_product, seitz_inverse, seitz_identity}
@@ -20,7 +20,7 @@ use Rattle.space_ops.specs.Words.{op_at, vector_difference, IsLatticeVector}
 use Rattle.space_ops.specs.LatticeLaws.{differ-trans}
 use Rattle.space_ops.specs.WordLaws.{more_less, word-same, word-product, word-identity}
 use Rattle.space_ops.specs.GroupLaws.{place_of, place_of-is, word-unimodular}
-use Rattle.iso_text.specs.NumberedGroup.{IsGroup}
+use Rattle.algebra.specs.NumberedGroup.{IsGroup}
 use Rattle.super_group.specs.Supercell.{IsCell, IsSameElement, IsInside, reduced}
 use Rattle.super_group.specs.SupercellLaws.{cell-lattice, cell_differ-trans, same-refl, same-sym, same-trans, same-product, same-inverse, reduced-cell, reduced-inside, reduced-lattice, reduced-same, inside-unique, member-inverse}
 use Rattle.super_group.specs.Quotient.{SupercellGroup, IsQuotient, IsMember, translation_at, order_of, element_of, place_among, number_of, quotient_group, IsNumbered}

@@ -7,7 +7,7 @@
 use Rattle.std.specs.Prelude.{◌≡◌, ℕ, ◌<◌, ℤ, List, [], ◌∷◌, ◌++◌, drop, map, length, slice_index_or}
 use Rattle.std.specs.declared.cmp.Ordering.TheVariants.{Less}
 use Rattle.space_ops.specs.declared.op.Op.{Op}
-use Rattle.space_ops.specs.Whole.{whole}
+use Rattle.algebra.specs.Whole.{whole}
 use Rattle.space_ops.specs.Matrix.{Vector, unit_matrix}
 use Rattle.space_ops.specs.Op.{shift_of, rows_of}
 use Rattle.space_ops.specs.Lattice.{centrings_of, twelfths}

@@ -9,16 +9,16 @@
 -- member-inverse: the inverse of a member is a member
 -- reduced-cell, reduced-inside: the reduced vector differs by a cell, and is inside
 -- reduced-lattice, reduced-same: that of a lattice vector is one, and vectors that differ by a cell have one
--- reduced_again: a coordinate may be reduced before another is taken from it
 -- inside-unique: vectors inside that differ by a cell are equal
 use Rattle.std.proofs.Common.{◌≡◌, refl, sym, ap, ◌∙◌, subst, ℕ, zero, suc, ◌<◌, ◌+◌, ◌*◌, ◌/◌, ◌%◌, ℤ, pos, negsuc, ◌+ℤ◌, ◌*ℤ◌, neg_ℤ, ◌≤ℤ◌, ◌<ℤ◌, List, [], ◌∷◌, length, arith}
 use Rattle.std.proofs.lemmas.Int.{ints}
 use Rattle.std.specs.Int.{int_rem_euclid}
 use Rattle.space_ops.specs.declared.op.Op.{Op}
 use Rattle.space_ops.specs.declared.lattice.Lattice.{Lattice}
-use Rattle.space_ops.specs.Solve.{V, Neg, Mul, K, at, solve}
-use Rattle.space_ops.specs.Whole.{whole}
-use Rattle.space_ops.specs.WholeLaws.{whole_ring}
+use Rattle.algebra.specs.Multiples.{IsMultiple}
+use Rattle.algebra.specs.MultipleLaws.{multiple_zero, multiple_sum, multiple_minus, multiple_times, rem-within, rem-differs, within-unique}
+use Rattle.algebra.specs.Whole.{whole}
+use Rattle.algebra.specs.WholeLaws.{whole_ring}
 use Rattle.space_ops.specs.Matrix.{Matrix, Vector, matrix_times, image_under, vector_sum, minus_vector, zero_vector}
 use Rattle.space_ops.specs.MatrixLaws.{same_vector, image_under-difference}
 use Rattle.space_ops.specs.Seitz.{Seitz, seitz_product, seitz_inverse, inverse_matrix}
@@ -29,50 +29,27 @@ use Rattle.space_ops.specs.GroupLaws.{word-unimodular, parent-word}
 use Rattle.super_group.specs.Supercell.{entry, multiplier, edge, IsSupercell, IsCell, IsSameElement, IsInside, reduced}
 use Rattle.super_group.specs.Quotient.{SupercellGroup, IsQuotient, IsMember}
 
--- x is a multiple of k
-abbrev IsMultiple : ℤ → ℤ → Type 0
-IsMultiple k x = (u : ℤ) × (x ≡ k *ℤ u)
-
-times-minus : (k u : ℤ) → neg_ℤ (k *ℤ u) ≡ k *ℤ neg_ℤ u
-times-minus k u = solve whole whole_ring (at (pos 0) (k ∷ u ∷ [])) (Neg (Mul (V 0) (V 1))) (Mul (V 0) (Neg (V 1))) refl
-
-times-other : (a k u : ℤ) → a *ℤ (k *ℤ u) ≡ k *ℤ (a *ℤ u)
-times-other a k u = solve whole whole_ring (at (pos 0) (a ∷ k ∷ u ∷ [])) (Mul (V 0) (Mul (V 1) (V 2))) (Mul (V 1) (Mul (V 0) (V 2))) refl
-
-zero-times : (k u : ℤ) → pos 0 *ℤ u ≡ k *ℤ pos 0
-zero-times k u = solve whole whole_ring (at (pos 0) (k ∷ u ∷ [])) (Mul (K 0) (V 1)) (Mul (V 0) (K 0)) refl
-
-times-zero : (k : ℤ) → pos 0 ≡ k *ℤ pos 0
-times-zero k = solve whole whole_ring (at (pos 0) (k ∷ [])) (K 0) (Mul (V 0) (K 0)) refl
-
-multiple_zero : (k : ℤ) → IsMultiple k (pos 0)
-multiple_zero k = (pos 0, times-zero k)
-
-multiple_sum : (k x y : ℤ) → IsMultiple k x → IsMultiple k y → IsMultiple k (x +ℤ y)
-multiple_sum k x y m n = (m.0 +ℤ n.0, (λ i. m.1 i +ℤ n.1 i) ∙ sym (whole_ring.mul_add k m.0 n.0))
-
-multiple_minus : (k x : ℤ) → IsMultiple k x → IsMultiple k (neg_ℤ x)
-multiple_minus k x m = (neg_ℤ m.0, ap neg_ℤ m.1 ∙ times-minus k m.0)
-
-multiple_times : (k a x : ℤ) → IsMultiple k x → IsMultiple k (a *ℤ x)
-multiple_times k a x m = (a *ℤ m.0, ap (λ y. a *ℤ y) m.1 ∙ times-other a k m.0)
+zero_times : (n : ℕ) (u : ℤ) → IsMultiple n (pos 0 *ℤ u)
+zero_times n u = subst (IsMultiple n) (sym (none u)) (multiple_zero n) where
+  none : (u : ℤ) → pos 0 *ℤ u ≡ pos 0
+  none u = omega (arith, ints)
 
 -- a cell is a multiple of the edge along each axis
-cell_of : (d : List ℕ) (v : Vector ℤ) → IsMultiple (edge d 0) v.x → IsMultiple (edge d 1) v.y → IsMultiple (edge d 2) v.z → IsCell d v
-cell_of d v a b c = record { edges = record { x = a.0; y = b.0; z = c.0 }; x = a.1; y = b.1; z = c.1 }
+cell_of : (d : List ℕ) (v : Vector ℤ) → IsMultiple (12 * multiplier d 0) v.x → IsMultiple (12 * multiplier d 1) v.y → IsMultiple (12 * multiplier d 2) v.z → IsCell d v
+cell_of d v a b c = record { edges = record { x = a.quotient; y = b.quotient; z = c.quotient }; x = a.is; y = b.is; z = c.is }
 
 pub cell_zero : (d : List ℕ) → IsCell d (zero_vector whole)
-cell_zero d = cell_of d (zero_vector whole) (multiple_zero (edge d 0)) (multiple_zero (edge d 1)) (multiple_zero (edge d 2))
+cell_zero d = cell_of d (zero_vector whole) (multiple_zero (12 * multiplier d 0)) (multiple_zero (12 * multiplier d 1)) (multiple_zero (12 * multiplier d 2))
 
 pub cell_sum : (d : List ℕ) (v w : Vector ℤ) → IsCell d v → IsCell d w → IsCell d (vector_sum whole v w)
 cell_sum d v w h k =
-    cell_of d (vector_sum whole v w) (multiple_sum (edge d 0) v.x w.x (h.edges.x, h.x) (k.edges.x, k.x))
-    (multiple_sum (edge d 1) v.y w.y (h.edges.y, h.y) (k.edges.y, k.y)) (multiple_sum (edge d 2) v.z w.z (h.edges.z, h.z) (k.edges.z, k.z))
+    cell_of d (vector_sum whole v w) (multiple_sum (12 * multiplier d 0) v.x w.x (record { quotient = h.edges.x; is = h.x }) (record { quotient = k.edges.x; is = k.x }))
+    (multiple_sum (12 * multiplier d 1) v.y w.y (record { quotient = h.edges.y; is = h.y }) (record { quotient = k.edges.y; is = k.y })) (multiple_sum (12 * multiplier d 2) v.z w.z (record { quotient = h.edges.z; is = h.z }) (record { quotient = k.edges.z; is = k.z }))
 
 pub cell_minus : (d : List ℕ) (v : Vector ℤ) → IsCell d v → IsCell d (minus_vector whole v)
 cell_minus d v h =
-    cell_of d (minus_vector whole v) (multiple_minus (edge d 0) v.x (h.edges.x, h.x)) (multiple_minus (edge d 1) v.y (h.edges.y, h.y))
-    (multiple_minus (edge d 2) v.z (h.edges.z, h.z))
+    cell_of d (minus_vector whole v) (multiple_minus (12 * multiplier d 0) v.x (record { quotient = h.edges.x; is = h.x })) (multiple_minus (12 * multiplier d 1) v.y (record { quotient = h.edges.y; is = h.y }))
+    (multiple_minus (12 * multiplier d 2) v.z (record { quotient = h.edges.z; is = h.z }))
 
 pub cell_difference : (d : List ℕ) (v w : Vector ℤ) → IsCell d v → IsCell d w → IsCell d (vector_difference v w)
 cell_difference d v w h k = cell_sum d v (minus_vector whole w) h (cell_minus d w k)
@@ -85,27 +62,27 @@ linked_edges ops d h n l i j p q f =
 
 -- an entry of a listed rotation times a multiple of the other axis's edge
 entry_multiple : (ops : List Op) (d : List ℕ) → IsSupercell ops d → (n : ℕ) → n < length ops → (i j : ℕ) → i < 3 → j < 3
-    → (a x : ℤ) → entry (op_at ops n).rot i j ≡ a → IsMultiple (edge d j) x → IsMultiple (edge d i) (a *ℤ x)
-entry_multiple ops d h n l i j p q (pos zero) x e m = (pos 0, zero-times (edge d i) x)
+    → (a x : ℤ) → entry (op_at ops n).rot i j ≡ a → IsMultiple (12 * multiplier d j) x → IsMultiple (12 * multiplier d i) (a *ℤ x)
+entry_multiple ops d h n l i j p q (pos zero) x e m = zero_times (12 * multiplier d i) x
 entry_multiple ops d h n l i j p q (pos (suc a)) x e m =
-    multiple_times (edge d i) (pos (suc a)) x
-    (subst (λ (k : ℕ). IsMultiple (pos (12 * k)) x) (linked_edges ops d h n l i j p q (λ z. let f : pos (suc a) ≡ pos 0 = sym e ∙ z in absurd (omega (arith, ints, f)))) m)
+    multiple_times (12 * multiplier d i) (pos (suc a)) x
+    (subst (λ (k : ℕ). IsMultiple (12 * k) x) (linked_edges ops d h n l i j p q (λ z. let f : pos (suc a) ≡ pos 0 = sym e ∙ z in absurd (omega (arith, ints, f)))) m)
 entry_multiple ops d h n l i j p q (negsuc a) x e m =
-    multiple_times (edge d i) (negsuc a) x
-    (subst (λ (k : ℕ). IsMultiple (pos (12 * k)) x) (linked_edges ops d h n l i j p q (λ z. let f : negsuc a ≡ pos 0 = sym e ∙ z in absurd (omega (arith, ints, f)))) m)
+    multiple_times (12 * multiplier d i) (negsuc a) x
+    (subst (λ (k : ℕ). IsMultiple (12 * k) x) (linked_edges ops d h n l i j p q (λ z. let f : negsuc a ≡ pos 0 = sym e ∙ z in absurd (omega (arith, ints, f)))) m)
 
 -- a listed rotation takes cells to cells
 pub cell_image : (ops : List Op) (d : List ℕ) → IsSupercell ops d → (n : ℕ) → n < length ops → (v : Vector ℤ) → IsCell d v
     → IsCell d (image_under whole (op_at ops n).rot v)
 cell_image ops d h n l v c =
     let r = (op_at ops n).rot in
-    let row : (i : ℕ) → i < 3 → IsMultiple (edge d i) ((entry r i 0 *ℤ v.x +ℤ entry r i 1 *ℤ v.y) +ℤ entry r i 2 *ℤ v.z) =
+    let row : (i : ℕ) → i < 3 → IsMultiple (12 * multiplier d i) ((entry r i 0 *ℤ v.x +ℤ entry r i 1 *ℤ v.y) +ℤ entry r i 2 *ℤ v.z) =
     λ i p.
-    multiple_sum (edge d i) (entry r i 0 *ℤ v.x +ℤ entry r i 1 *ℤ v.y) (entry r i 2 *ℤ v.z)
-    (multiple_sum (edge d i) (entry r i 0 *ℤ v.x) (entry r i 1 *ℤ v.y)
-    (entry_multiple ops d h n l i 0 p (omega arith) (entry r i 0) v.x refl (c.edges.x, c.x))
-    (entry_multiple ops d h n l i 1 p (omega arith) (entry r i 1) v.y refl (c.edges.y, c.y)))
-    (entry_multiple ops d h n l i 2 p (omega arith) (entry r i 2) v.z refl (c.edges.z, c.z))
+    multiple_sum (12 * multiplier d i) (entry r i 0 *ℤ v.x +ℤ entry r i 1 *ℤ v.y) (entry r i 2 *ℤ v.z)
+    (multiple_sum (12 * multiplier d i) (entry r i 0 *ℤ v.x) (entry r i 1 *ℤ v.y)
+    (entry_multiple ops d h n l i 0 p (omega arith) (entry r i 0) v.x refl (record { quotient = c.edges.x; is = c.x }))
+    (entry_multiple ops d h n l i 1 p (omega arith) (entry r i 1) v.y refl (record { quotient = c.edges.y; is = c.y })))
+    (entry_multiple ops d h n l i 2 p (omega arith) (entry r i 2) v.z refl (record { quotient = c.edges.z; is = c.z }))
     in
     cell_of d (image_under whole r v) (row 0 (omega arith)) (row 1 (omega arith)) (row 2 (omega arith))
 
@@ -190,66 +167,25 @@ same-inverse s q g g' mg mg' a = record {
       (member-cell s q (seitz_inverse whole g) (member-inverse s q g mg) (vector_difference g.shift g'.shift) a.translation));
 }
 
--- a reduced coordinate differs by a multiple, and is below the edge
-reduced_multiple : (n : ℕ) → 0 < n → (x : ℤ) → IsMultiple (pos n) (int_rem_euclid x (pos n) +ℤ neg_ℤ x)
-reduced_multiple n l (pos a) =
-    let k : n * (a / n) + a % n ≡ a = omega arith in
-    (neg_ℤ (pos (a / n)), (let e : pos (a % n) +ℤ neg_ℤ (pos a) ≡ neg_ℤ (pos n *ℤ pos (a / n)) = omega (arith, ints, k) in e ∙ times-minus (pos n) (pos (a / n))))
-reduced_multiple n l (negsuc a) =
-    let k : n * (a / n) + a % n ≡ a = omega arith in
-    let b : a % n < n = omega arith in
-    let e : n * suc (a / n) ≡ n * (a / n) + n = omega arith in
-    (pos (suc (a / n)), omega (arith, ints, k, b, e))
-
-reduced_below : (n : ℕ) → 0 < n → (x : ℤ) → (pos 0 ≤ℤ int_rem_euclid x (pos n)) × (int_rem_euclid x (pos n) <ℤ pos n)
-reduced_below n l (pos a) = let b : a % n < n = omega arith in (omega (arith, ints), omega (arith, ints))
-reduced_below n l (negsuc a) = let b : a % n < n = omega arith in (omega (arith, ints), omega (arith, ints))
-
 edge_positive : (m : ℕ) → 0 < m → 0 < 12 * m
 edge_positive m l = omega arith
 
 pub reduced-cell : (d : List ℕ) → ((i : ℕ) → i < 3 → 0 < multiplier d i) → (v : Vector ℤ) → IsCell d (vector_difference (reduced d v) v)
 reduced-cell d p v =
-    cell_of d (vector_difference (reduced d v) v) (reduced_multiple (12 * multiplier d 0) (edge_positive _ (p 0 (omega arith))) v.x)
-    (reduced_multiple (12 * multiplier d 1) (edge_positive _ (p 1 (omega arith))) v.y) (reduced_multiple (12 * multiplier d 2) (edge_positive _ (p 2 (omega arith))) v.z)
+    cell_of d (vector_difference (reduced d v) v) (rem-differs (12 * multiplier d 0) (edge_positive _ (p 0 (omega arith))) v.x)
+    (rem-differs (12 * multiplier d 1) (edge_positive _ (p 1 (omega arith))) v.y) (rem-differs (12 * multiplier d 2) (edge_positive _ (p 2 (omega arith))) v.z)
 
 pub reduced-inside : (d : List ℕ) → ((i : ℕ) → i < 3 → 0 < multiplier d i) → (v : Vector ℤ) → IsInside d (reduced d v)
 reduced-inside d p v = (
-  reduced_below (12 * multiplier d 0) (edge_positive _ (p 0 (omega arith))) v.x,
-  reduced_below (12 * multiplier d 1) (edge_positive _ (p 1 (omega arith))) v.y,
-  reduced_below (12 * multiplier d 2) (edge_positive _ (p 2 (omega arith))) v.z,
+  rem-within (12 * multiplier d 0) (edge_positive _ (p 0 (omega arith))) v.x,
+  rem-within (12 * multiplier d 1) (edge_positive _ (p 1 (omega arith))) v.y,
+  rem-within (12 * multiplier d 2) (edge_positive _ (p 2 (omega arith))) v.z,
 )
-
--- numbers below the edge that differ by a multiple of it are equal
-below_unique : (n : ℕ) (x y u : ℤ) → (pos 0 ≤ℤ x) × (x <ℤ pos n) → (pos 0 ≤ℤ y) × (y <ℤ pos n) → x +ℤ neg_ℤ y ≡ pos n *ℤ u → x ≡ y
-below_unique n x y (pos zero) h k e = omega (arith, ints, h.0, h.1, k.0, k.1, e ∙ sym (times-zero (pos n)))
-below_unique n x y (pos (suc u)) h k e = let f : n * suc u ≡ n * u + n = omega arith in absurd (omega (arith, ints, h.0, h.1, k.0, k.1, e, f))
-below_unique n x y (negsuc u) h k e =
-    let f : n * suc u ≡ n * u + n = omega arith in
-    let g : x +ℤ neg_ℤ y ≡ neg_ℤ (pos n *ℤ pos (suc u)) = e ∙ sym (times-minus (pos n) (pos (suc u))) in
-    absurd (omega (arith, ints, h.0, h.1, k.0, k.1, g, f))
 
 pub inside-unique : (d : List ℕ) (v w : Vector ℤ) → IsInside d v → IsInside d w → IsCell d (vector_difference v w) → v ≡ w
 inside-unique d v w h k c =
-    same_vector v w (below_unique (12 * multiplier d 0) v.x w.x c.edges.x h.0 k.0 c.x) (below_unique (12 * multiplier d 1) v.y w.y c.edges.y h.1 k.1 c.y)
-    (below_unique (12 * multiplier d 2) v.z w.z c.edges.z h.2 k.2 c.z)
-
-again_step : (r w x y q z : ℤ) → w ≡ x +ℤ neg_ℤ y → (q +ℤ neg_ℤ w) +ℤ ((x +ℤ neg_ℤ z) +ℤ neg_ℤ (r +ℤ neg_ℤ (z +ℤ neg_ℤ y))) ≡ q +ℤ neg_ℤ r
-again_step r w x y q z e = omega (arith, ints, e)
-
--- a coordinate may be reduced before another is taken from it
-pub reduced_again : (n : ℕ) → 0 < n → (x y : ℤ) → int_rem_euclid (int_rem_euclid x (pos n) +ℤ neg_ℤ y) (pos n) ≡ int_rem_euclid (x +ℤ neg_ℤ y) (pos n)
-reduced_again n l x y =
-    let w = int_rem_euclid x (pos n) +ℤ neg_ℤ y in
-    let z = x +ℤ neg_ℤ y in
-    let q = int_rem_euclid w (pos n) in
-    let r = int_rem_euclid z (pos n) in
-    let m =
-    multiple_sum (pos n) (q +ℤ neg_ℤ w) ((int_rem_euclid x (pos n) +ℤ neg_ℤ x) +ℤ neg_ℤ (r +ℤ neg_ℤ z)) (reduced_multiple n l w)
-    (multiple_sum (pos n) (int_rem_euclid x (pos n) +ℤ neg_ℤ x) (neg_ℤ (r +ℤ neg_ℤ z)) (reduced_multiple n l x)
-    (multiple_minus (pos n) (r +ℤ neg_ℤ z) (reduced_multiple n l z)))
-    in
-    below_unique n q r m.0 (reduced_below n l w) (reduced_below n l z) (sym (again_step r w (int_rem_euclid x (pos n)) y q x refl) ∙ m.1)
+    same_vector v w (within-unique (12 * multiplier d 0) v.x w.x h.0 k.0 (record { quotient = c.edges.x; is = c.x })) (within-unique (12 * multiplier d 1) v.y w.y h.1 k.1 (record { quotient = c.edges.y; is = c.y }))
+    (within-unique (12 * multiplier d 2) v.z w.z h.2 k.2 (record { quotient = c.edges.z; is = c.z }))
 
 less_more : (v w : Vector ℤ) → vector_sum whole (vector_difference w v) v ≡ w
 less_more v w = same_vector _ _ (omega (arith, ints)) (omega (arith, ints)) (omega (arith, ints))

@@ -7,7 +7,7 @@ use Rattle.std.proofs.Common.{◌≡◌, refl, sym, ap, ◌∙◌, ℕ, ◌<◌,
 use Rattle.std.proofs.lemmas.Int.{ints}
 use Rattle.space_ops.specs.declared.lattice.Lattice.{Lattice}
 use Rattle.space_ops.specs.declared.lattice.Lattice.TheVariants.{P, A, B, C, I, R, F}
-use Rattle.space_ops.specs.Whole.{whole}
+use Rattle.algebra.specs.Whole.{whole}
 use Rattle.space_ops.specs.Matrix.{Vector, vector_sum}
 use Rattle.space_ops.specs.MatrixLaws.{same_vector}
 use Rattle.space_ops.specs.Lattice.{centrings_of}

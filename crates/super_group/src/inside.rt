@@ -1,7 +1,7 @@
 // Translations reduced into the supercell.
 ghost use Rattle.std.specs.Prelude.{◌≡◌, ℕ, ◌<◌, ◌≤◌, pos, ◌+ℤ◌, neg_ℤ, ◌*◌};
 ghost use Rattle.std.specs.Int.{int_rem_euclid};
-ghost use Rattle.space_ops.specs.Whole.{whole};
+ghost use Rattle.algebra.specs.Whole.{whole};
 ghost use Rattle.space_ops.specs.Matrix.{vector_sum};
 ghost use Rattle.space_ops.specs.Op.{vector_of, shift_of, IsWithin, IsShiftWithin};
 ghost use Rattle.space_ops.specs.Words.{vector_difference};

@@ -52,9 +52,9 @@ impl Model for Quotient {
 
 impl Quotient {
     ghost use Rattle.std.specs.Prelude.{◌≡◌, ℕ, ◌<◌, ◌≤◌, IfOk, Err, length, slice_index_or};
-    ghost use Rattle.iso_text.specs.NumberedGroup.{IsGroup, IsGenerated};
+    ghost use Rattle.algebra.specs.NumberedGroup.{IsGroup, IsGenerated};
     ghost use Rattle.space_ops.specs.Seitz.{seitz_product, seitz_inverse};
-    ghost use Rattle.space_ops.specs.Whole.{whole};
+    ghost use Rattle.algebra.specs.Whole.{whole};
     ghost use Rattle.space_ops.specs.Op.{seitz_of, op_of, matrix_of, IsSmallRotation, IsShiftWithin, IsUnimodular};
     ghost use Rattle.space_ops.specs.GroupLaws.{place_of};
     ghost use Rattle.super_group.specs.Supercell.{IsSupercell, IsSameElement};

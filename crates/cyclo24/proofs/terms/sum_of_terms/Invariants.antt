@@ -1,5 +1,5 @@
 use Rattle.std.proofs.Common.{◌≡◌, ◌*◌, drop, pos}
-use Rattle.cyclo24.specs.WholeRing.{whole}
+use Rattle.algebra.specs.Whole.{whole}
 use Rattle.cyclo24.specs.Eight.{add8}
 use Rattle.cyclo24.specs.Written8.{eight_of}
 use Rattle.cyclo24.specs.Terms.{terms8, AreAtMost}

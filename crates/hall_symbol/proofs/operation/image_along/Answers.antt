@@ -1,11 +1,11 @@
-use Rattle.std.proofs.Common.{rules}
+use Rattle.std.proofs.Common.{rules, w8, w32}
 use Rattle.space_ops.specs.Op.{number_at}
-use Rattle.hall_symbol.proofs.Passed.{passed_sum, passed_product}
+use Rattle.algebra.specs.PassedLaws.{passed-sum, passed-product}
 use Rattle.hall_symbol.proofs.operation.image_along.Goals as goal
 
 pub returns-clause-value : goal.returns-clause-value
 returns-clause-value c =
-    passed_sum c.sum.result c.product.result c.product-2.result c.product-3.result _ _ _ (search rules) (search rules) (search rules) (search rules) c.sum.ensures.value
-    (passed_product _ (number_at c.args.row 0) (number_at c.args.origin 0) (search rules) (search rules) c.product.ensures.value)
-    (passed_product _ (number_at c.args.row 1) (number_at c.args.origin 1) (search rules) (search rules) c.product-2.ensures.value)
-    (passed_product _ (number_at c.args.row 2) (number_at c.args.origin 2) (search rules) (search rules) c.product-3.ensures.value)
+    passed-sum w32 c.sum.result c.product.result c.product-2.result c.product-3.result _ _ _ (search rules) (search rules) (search rules) (search rules) c.sum.ensures.value
+    (passed-product w8 w32 (number_at c.args.row 0) (number_at c.args.origin 0) _ (search rules) (search rules) c.product.ensures.value)
+    (passed-product w8 w32 (number_at c.args.row 1) (number_at c.args.origin 1) _ (search rules) (search rules) c.product-2.ensures.value)
+    (passed-product w8 w32 (number_at c.args.row 2) (number_at c.args.origin 2) _ (search rules) (search rules) c.product-3.ensures.value)

@@ -1,5 +1,6 @@
 use Rattle.std.proofs.Common.{rules}
-use Rattle.hall_symbol.proofs.Passed.{passed_opposite, same_three}
+use Rattle.algebra.specs.ListLaws.{same_three}
+use Rattle.hall_symbol.proofs.Passed.{passed_opposite}
 use Rattle.hall_symbol.proofs.operation.opposite_row.Goals as goal
 
 pub returns-clause-value : goal.returns-clause-value

@@ -1,11 +1,11 @@
 use Rattle.std.proofs.Common.{◌≡◌, ◌+◌, sym, subst, arith}
 use Rattle.iso_report.specs.SignDirections.{IsAll}
-use Rattle.iso_report.proofs.MemberLemmas.{members_push}
+use Rattle.algebra.specs.RisingListLaws.{list-more}
 use Rattle.iso_report.proofs.directions.all_numbers.Goals as goal
 
 pub loop-q-preserved : goal.loop-q-preserved
 loop-q-preserved c =
-    subst (IsAll (c.loop-q.q + 1)) (sym c.in_ok-push.ensures) (members_push c.loop-q.q _ c.loop-q.numbers.items c.loop-q.invariant tt)
+    subst (IsAll (c.loop-q.q + 1)) (sym c.in_ok-push.ensures) (list-more c.loop-q.q _ c.loop-q.numbers.items c.loop-q.invariant tt)
 
 pub returns : goal.returns
 returns c =

@@ -1,6 +1,7 @@
 use Rattle.std.proofs.Common.{ℕ, ◌<◌, get_or, []}
 use Rattle.space_ops.specs.Op.{vector_of}
-use Rattle.kstar.specs.WaveVector.{IsMultiple, row_value}
+use Rattle.algebra.specs.Multiples.{IsMultiple}
+use Rattle.kstar.specs.WaveVector.{row_value}
 use Rattle.kstar.proofs.equivalence.are_whole.Given as goal
 
 abbrev pub invariant-loop-vector : goal.invariant-loop-vector

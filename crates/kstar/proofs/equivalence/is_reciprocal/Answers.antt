@@ -1,6 +1,7 @@
 use Rattle.std.proofs.Common.{◌∙◌, subst, ℕ, ◌<◌, ℤ, List, [], length, get_or}
 use Rattle.space_ops.specs.Op.{vector_of}
-use Rattle.kstar.specs.WaveVector.{IsMultiple, row_value}
+use Rattle.algebra.specs.Multiples.{IsMultiple}
+use Rattle.kstar.specs.WaveVector.{row_value}
 use Rattle.kstar.specs.WaveVectorLaws.{whole-generated, whole-centrings, whole-edges}
 use Rattle.kstar.proofs.equivalence.is_reciprocal.Goals as goal
 

@@ -1,5 +1,5 @@
 use Rattle.std.proofs.Common.{w64, arith}
-use Rattle.kstar.specs.Multiples.{rem-multiple, multiple-rem}
+use Rattle.algebra.specs.MultipleLaws.{rem-multiple, multiple-rem}
 use Rattle.kstar.proofs.Remainders.{rem_yes, rem_no}
 use Rattle.kstar.proofs.equivalence.is_whole.Goals as goal
 

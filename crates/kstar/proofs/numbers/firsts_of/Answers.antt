@@ -1,7 +1,7 @@
 use Rattle.std.proofs.Common.{ℕ, ◌<◌}
 use Rattle.kstar.specs.WaveVector.{AreEquivalent}
 use Rattle.kstar.specs.Star.{row_in}
-use Rattle.kstar.proofs.Appends.{list-grows}
+use Rattle.algebra.specs.RisingListLaws.{list-grows}
 use Rattle.kstar.proofs.numbers.firsts_of.Goals as goal
 
 pub loop-r-preserved : goal.loop-r-preserved

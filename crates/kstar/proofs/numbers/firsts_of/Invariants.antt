@@ -1,6 +1,7 @@
 use Rattle.std.proofs.Common.{ℕ, ◌<◌}
 use Rattle.kstar.specs.WaveVector.{AreEquivalent}
-use Rattle.kstar.specs.Star.{IsRisingListOf, row_in}
+use Rattle.algebra.specs.RisingLists.{IsRisingListOf}
+use Rattle.kstar.specs.Star.{row_in}
 use Rattle.kstar.proofs.numbers.firsts_of.Given as goal
 
 abbrev pub invariant-loop-r : goal.invariant-loop-r

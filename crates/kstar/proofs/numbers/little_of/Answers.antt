@@ -2,7 +2,7 @@ use Rattle.std.proofs.Common.{subst, sym, ℤ, List}
 use Rattle.space_ops.specs.Op.{vector_of}
 use Rattle.kstar.specs.WaveVector.{AreEquivalent}
 use Rattle.kstar.specs.Star.{row_in}
-use Rattle.kstar.proofs.Appends.{list-grows}
+use Rattle.algebra.specs.RisingListLaws.{list-grows}
 use Rattle.kstar.proofs.numbers.little_of.Goals as goal
 
 pub loop-r-preserved : goal.loop-r-preserved

@@ -1,6 +1,7 @@
 use Rattle.space_ops.specs.Op.{vector_of}
 use Rattle.kstar.specs.WaveVector.{AreEquivalent}
-use Rattle.kstar.specs.Star.{IsRisingListOf, row_in}
+use Rattle.algebra.specs.RisingLists.{IsRisingListOf}
+use Rattle.kstar.specs.Star.{row_in}
 use Rattle.kstar.proofs.numbers.little_of.Given as goal
 
 abbrev pub invariant-loop-r : goal.invariant-loop-r

@@ -1,5 +1,5 @@
 use Rattle.std.proofs.Common.{◌≡◌, ap, ◌∙◌, sym, subst}
-use Rattle.space_ops.specs.Whole.{whole}
+use Rattle.algebra.specs.Whole.{whole}
 use Rattle.space_ops.specs.Matrix.{vector_sum}
 use Rattle.space_ops.specs.Op.{vector_of}
 use Rattle.space_ops.specs.Words.{vector_difference, IsLatticeVector}

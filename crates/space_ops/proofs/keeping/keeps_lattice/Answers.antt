@@ -1,5 +1,5 @@
 use Rattle.std.proofs.Common.{◌∙◌, subst, ℕ, ◌<◌, ℤ, List, [], length, get_or}
-use Rattle.space_ops.specs.Whole.{whole}
+use Rattle.algebra.specs.Whole.{whole}
 use Rattle.space_ops.specs.Matrix.{image_under}
 use Rattle.space_ops.specs.Op.{matrix_of, vector_of}
 use Rattle.space_ops.specs.Words.{centring_at, IsLatticeVector}

@@ -1,10 +1,8 @@
 use Rattle.std.proofs.Common.{rules, ℤ, [], ◌∷◌, ◌≡◌}
+use Rattle.algebra.specs.ListLaws.{same_three}
 use Rattle.space_ops.specs.Op.{number_at, row_at}
 use Rattle.space_ops.proofs.Passed.{passed_row_times}
 use Rattle.space_ops.proofs.rotation.row_product.Goals as goal
-
-same_three : (x y z x' y' z' : ℤ) → x ≡ x' → y ≡ y' → z ≡ z' → x ∷ y ∷ z ∷ [] ≡ x' ∷ y' ∷ z' ∷ []
-same_three x y z x' y' z' e f g = λ i. e i ∷ f i ∷ g i ∷ []
 
 pub returns : goal.returns
 returns c =

@@ -1,6 +1,6 @@
 use Rattle.std.proofs.Common.{◌≡◌, refl, sym, ap, ◌∙◌, subst, List, [], ◌∷◌, ◌++◌, true, false, arith}
 use Rattle.space_ops.specs.declared.op.Op.{Op}
-use Rattle.space_ops.specs.Whole.{whole}
+use Rattle.algebra.specs.Whole.{whole}
 use Rattle.space_ops.specs.Seitz.{Seitz, seitz_inverse}
 use Rattle.space_ops.specs.Op.{seitz_of, inverse_of, IsSmallMatrix}
 use Rattle.space_ops.specs.OpLaws.{seitz_of-inverse_of}

@@ -1,7 +1,7 @@
 use Rattle.std.proofs.Common.{◌≡◌, ap, subst, ◌+◌, ◌*◌, List, [], ◌∷◌, ◌++◌, length, arith}
 use Rattle.std.proofs.lemmas.List.{get_or_default}
 use Rattle.space_ops.specs.declared.op.Op.{Op}
-use Rattle.space_ops.specs.Whole.{whole}
+use Rattle.algebra.specs.Whole.{whole}
 use Rattle.space_ops.specs.Seitz.{seitz_inverse}
 use Rattle.space_ops.specs.Op.{seitz_of, identity_op, IsSmallMatrix, IsUnimodular}
 use Rattle.space_ops.specs.LeastShift.{IsInCell}

@@ -1,9 +1,10 @@
 use Rattle.std.proofs.Common.{◌≡◌, ◌∙◌, ap, sym, subst, pos, ◌<◌, ◌*◌, ◌+◌, ◌%◌, ◌+ℤ◌}
 use Rattle.space_ops.specs.Op.{vector_of}
-use Rattle.space_ops.specs.Whole.{whole}
+use Rattle.algebra.specs.Whole.{whole}
 use Rattle.space_ops.specs.Matrix.{vector_sum}
 use Rattle.kstar.specs.Star.{WaveStar}
-use Rattle.kstar.specs.WaveVector.{IsMultiple, row_value, HasPhases, phase_of}
+use Rattle.algebra.specs.Multiples.{IsMultiple}
+use Rattle.kstar.specs.WaveVector.{row_value, HasPhases, phase_of}
 use Rattle.kstar.specs.WaveVectorLaws.{phases-lattice}
 use Rattle.kstar.specs.PhaseLaws.{phase_of-below, phase_of-is, phase_of-sum}
 use Rattle.kstar.proofs.star.Star.power.Goals as goal

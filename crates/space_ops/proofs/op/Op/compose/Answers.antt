@@ -1,5 +1,5 @@
 use Rattle.std.proofs.Common.{◌∙◌, ap, ℤ, List}
-use Rattle.space_ops.specs.Whole.{whole}
+use Rattle.algebra.specs.Whole.{whole}
 use Rattle.space_ops.specs.Matrix.{vector_sum}
 use Rattle.space_ops.specs.Op.{product_of, shift_of, vector_of}
 use Rattle.space_ops.proofs.Bounds.{rotation_more}

@@ -1,5 +1,5 @@
 use Rattle.std.proofs.Common.{◌∙◌, ap, ℤ, List}
-use Rattle.space_ops.specs.Whole.{whole}
+use Rattle.algebra.specs.Whole.{whole}
 use Rattle.space_ops.specs.Matrix.{minus_vector, image_under}
 use Rattle.space_ops.specs.Op.{inverse_of, shift_of, vector_of, matrix_of}
 use Rattle.space_ops.proofs.op.Op.inverse.Goals as goal

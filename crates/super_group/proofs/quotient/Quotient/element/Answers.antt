@@ -5,7 +5,7 @@ use Rattle.super_group.specs.Quotient.{SupercellGroup, IsQuotient, order_of, ele
 use Rattle.super_group.specs.QuotientView.{view_of}
 use Rattle.super_group.specs.SupercellLaws.{member-inverse}
 use Rattle.super_group.specs.QuotientLaws.{element-member}
-use Rattle.super_group.proofs.Passed.{same_at}
+use Rattle.std.proofs.lemmas.List.{get_or_default}
 use Rattle.super_group.proofs.ElementLemmas.{listed_within, translation_within, element_is, element_small, element_near, element_unimodular, rotation_below, translation_below}
 use Rattle.super_group.proofs.quotient.Quotient.element.Goals as goal
 
@@ -22,7 +22,7 @@ sum_inside-shift-requires-clause-right c =
     let l = subst (λ (s : SupercellGroup). c.args.q < order_of s) (sym c.self.view_is) c.requires in
     let m = translation_below (view_of c.self.inside) c.self.invariant.quotient c.args.q l c.len-count.result count in
     translation_within (view_of c.self.inside) c.self.invariant.quotient (c.args.q % c.len-count.result) m c.index.result.now
-    (c.index.ensures ∙ same_at c.self.inside.translations.items (c.args.q % c.len-count.result) c.index.result.now [] m)
+    (c.index.ensures ∙ get_or_default c.self.inside.translations.items (c.args.q % c.len-count.result) c.index.result.now [] m)
 
 pub returns-clause-element : goal.returns-clause-element
 returns-clause-element c =
@@ -31,7 +31,7 @@ returns-clause-element c =
     let m = translation_below (view_of c.self.inside) c.self.invariant.quotient c.args.q l c.len-count.result count in
     subst (λ (s : SupercellGroup). (let o : Op = record { rot = c.op-listed.result.rot; shift = c.sum_inside-shift.result } in o) ≡ op_of (element_of s c.args.q)) c.self.view_is
     (element_is (view_of c.self.inside) c.self.invariant.quotient c.args.q l c.len-count.result count c.op-listed.result c.op-listed.ensures c.index.result.now
-    (c.index.ensures ∙ same_at c.self.inside.translations.items (c.args.q % c.len-count.result) c.index.result.now [] m) c.sum_inside-shift.result c.sum_inside-shift.ensures)
+    (c.index.ensures ∙ get_or_default c.self.inside.translations.items (c.args.q % c.len-count.result) c.index.result.now [] m) c.sum_inside-shift.result c.sum_inside-shift.ensures)
 
 pub returns-clause-member : goal.returns-clause-member
 returns-clause-member c = element-member c.args.self.now (subst IsQuotient c.self.view_is c.self.invariant.quotient) c.args.q c.requires

@@ -2,7 +2,7 @@ use Rattle.std.proofs.Common.{◌≡◌, ℕ, sym, ap, ◌∙◌, subst, [], ◌
 use Rattle.std.proofs.lemmas.List.{take_all}
 use Rattle.space_ops.specs.declared.op.Op.{Op}
 use Rattle.space_ops.specs.Op.{seitz_of}
-use Rattle.iso_text.specs.NumberedGroup.{IsGenerated}
+use Rattle.algebra.specs.NumberedGroup.{IsGenerated}
 use Rattle.super_group.specs.Quotient.{SupercellGroup, IsQuotient, IsMember, number_of, quotient_group, generators_of}
 use Rattle.super_group.specs.GeneratorLaws.{generators-generate}
 use Rattle.super_group.specs.QuotientParts.{motion_ops}

@@ -2,7 +2,7 @@
 --
 -- whole: its numerals and operations
 use Rattle.std.specs.Prelude.{ℤ, pos, ◌+ℤ◌, ◌*ℤ◌, neg_ℤ}
-use Rattle.space_ops.specs.Ring.{Ops}
+use Rattle.algebra.specs.Ring.{Ops}
 
 abbrev pub whole : Ops ℤ
 whole = record { num = pos; neg = neg_ℤ; add = ◌+ℤ◌; mul = ◌*ℤ◌ }

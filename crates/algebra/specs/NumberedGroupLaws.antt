@@ -4,7 +4,7 @@
 -- product-back, back-product: a after its inverse, and its inverse after a
 -- cancel: a product determines its right factor
 use Rattle.std.proofs.Common.{◌≡◌, ℕ, ◌<◌, sym, ◌∙◌, ap}
-use Rattle.iso_text.specs.NumberedGroup.{Group, IsGroup}
+use Rattle.algebra.specs.NumberedGroup.{Group, IsGroup}
 
 module _ (g : Group) (law : IsGroup g) where
   pub product-inverse : (a : ℕ) → a < g.order → g.product a (g.inverse a) ≡ 0

@@ -1,32 +1,33 @@
--- The ring of the whole numbers.
+-- The ring laws of the whole numbers.
 --
--- whole: the operations on whole numbers
+-- add_zeroℤ: 0 + a = a
 -- whole_ring: they are a commutative ring
 use Rattle.std.proofs.Common.{◌≡◌, ℕ, ◌*◌, suc, arith, ap}
 use Rattle.std.proofs.Math.IntN.{ℤ, pos, ◌+ℤ◌, ◌*ℤ◌, neg_ℤ}
 use Rattle.std.proofs.lemmas.Int.{ints}
-use Rattle.cyclo24.specs.Ring.{Ops, IsRing}
+use Rattle.algebra.specs.Ring.{IsRing}
+use Rattle.algebra.specs.Whole.{whole}
 use borrow.Author.Differences.{up, down, product_is, sum_is_lem}
 
-pub add_assocℤ : (a b c : ℤ) → (a +ℤ b) +ℤ c ≡ a +ℤ (b +ℤ c)
+add_assocℤ : (a b c : ℤ) → (a +ℤ b) +ℤ c ≡ a +ℤ (b +ℤ c)
 add_assocℤ a b c = omega (arith, ints)
 
-pub add_commℤ : (a b : ℤ) → a +ℤ b ≡ b +ℤ a
+add_commℤ : (a b : ℤ) → a +ℤ b ≡ b +ℤ a
 add_commℤ a b = omega (arith, ints)
 
 pub add_zeroℤ : (a : ℤ) → pos 0 +ℤ a ≡ a
 add_zeroℤ a = omega (arith, ints)
 
-pub add_negℤ : (a : ℤ) → a +ℤ neg_ℤ a ≡ pos 0
+add_negℤ : (a : ℤ) → a +ℤ neg_ℤ a ≡ pos 0
 add_negℤ a = omega (arith, ints)
 
-pub mul_oneℤ : (a : ℤ) → pos 1 *ℤ a ≡ a
+mul_oneℤ : (a : ℤ) → pos 1 *ℤ a ≡ a
 mul_oneℤ a = omega (arith, ints)
 
-pub mul_commℤ : (a b : ℤ) → a *ℤ b ≡ b *ℤ a
+mul_commℤ : (a b : ℤ) → a *ℤ b ≡ b *ℤ a
 mul_commℤ a b = omega (arith, ints)
 
-pub mul_assocℤ : (a b c : ℤ) → (a *ℤ b) *ℤ c ≡ a *ℤ (b *ℤ c)
+mul_assocℤ : (a b c : ℤ) → (a *ℤ b) *ℤ c ≡ a *ℤ (b *ℤ c)
 mul_assocℤ a b c =
     omega (
       arith,
@@ -41,14 +42,11 @@ mul_assocℤ a b c =
       ap (λ n. down a * n) (product_is b c).1,
     )
 
-pub mul-addℤ : (a b c : ℤ) → a *ℤ (b +ℤ c) ≡ a *ℤ b +ℤ a *ℤ c
+mul-addℤ : (a b c : ℤ) → a *ℤ (b +ℤ c) ≡ a *ℤ b +ℤ a *ℤ c
 mul-addℤ a b c = omega (arith, ints, ap (λ n. up a * n) (sum_is_lem b c), ap (λ n. down a * n) (sum_is_lem b c))
 
-pub num-sucℤ : (n : ℕ) → pos (suc n) ≡ pos 1 +ℤ pos n
+num-sucℤ : (n : ℕ) → pos (suc n) ≡ pos 1 +ℤ pos n
 num-sucℤ n = omega (arith, ints)
-
-abbrev pub whole : Ops ℤ
-whole = record { num = pos; neg = neg_ℤ; add = ◌+ℤ◌; mul = ◌*ℤ◌ }
 
 pub whole_ring : IsRing whole
 whole_ring = record {

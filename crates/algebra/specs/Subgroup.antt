@@ -2,7 +2,7 @@
 --
 -- IsSubgroup g xs: the numbers of xs are elements of g, the identity among them, and with any of them their products and inverses
 use Rattle.std.specs.Prelude.{ℕ, ◌<◌, List, Contains}
-use Rattle.iso_text.specs.NumberedGroup.{Group}
+use Rattle.algebra.specs.NumberedGroup.{Group}
 
 pub record IsSubgroup (g : Group) (xs : List ℕ) : Type 0 where
   pub below : (a : ℕ) → Contains xs a → a < g.order

@@ -1,20 +1,20 @@
 -- Words over the generators of a numbered group.
 --
--- HasWord g n generator a: a is the element of a word over the n generators
 -- word-below: the element of a word is below the order
 -- identity-word, generator-word, product-word: words for 0, for a generator, for a product of words
 -- power g a k: the product of k factors a
 -- power-back: some power of a, of at least one factor, is 0
 -- inverse-word: a word for the inverse of a word
-use Rattle.std.proofs.Common.{◌≡◌, refl, sym, ◌∙◌, ap, subst, ℕ, zero, suc, ◌<◌, ◌≤◌, ◌+◌, ◌⊎◌, inl, inr, ⊎_elim, List, [], ◌∷◌, ◌++◌, arith}
+-- words-generate: where each element has a word, the generators generate
+-- generated-holds: what holds of 0 and is kept by products with generators on the left holds of each element
+-- generated-test: the same for a test
+use Rattle.std.proofs.Common.{◌≡◌, Bool, true, refl, sym, ◌∙◌, ap, subst, ℕ, zero, suc, ◌<◌, ◌≤◌, ◌+◌, ◌⊎◌, inl, inr, ⊎_elim, List, [], ◌∷◌, ◌++◌, arith}
 use Rattle.std.proofs.lemmas.Bool.{cases_lt}
-use Rattle.iso_text.specs.NumberedGroup.{Group, IsGroup, word, AllBelow}
-use Rattle.iso_text.specs.NumberedGroupLaws.{product-inverse, product-identity, cancel}
-use Rattle.space_ops.specs.Pigeonhole.{pigeonhole}
-
--- a is the element of a word over the n generators
-abbrev pub HasWord : Group → ℕ → (ℕ → ℕ) → ℕ → Type 0
-HasWord g n generator a = (is : List ℕ) × AllBelow n is × (a ≡ word g.product generator is)
+use Rattle.std.proofs.Math.Logic.{∥∥₁_elim}
+use mathlib.Core.Bool.{Bool-set}
+use Rattle.algebra.specs.NumberedGroup.{Group, IsGroup, word, AllBelow, HasWord, IsGenerated}
+use Rattle.algebra.specs.NumberedGroupLaws.{product-inverse, product-identity, cancel}
+use Rattle.algebra.specs.Pigeonhole.{pigeonhole}
 
 -- the product of k factors a
 abbrev pub power : Group → ℕ → ℕ → ℕ
@@ -111,3 +111,21 @@ module _ (g : Group) (law : IsGroup g) (n : ℕ) (generator : ℕ → ℕ) (belo
       let e : power g a p.0 ≡ g.inverse a =
       cancel g law a (power g a p.0) (g.inverse a) l (power-below g law a p.0 l) (law.inverse_below a l) (p.2 ∙ sym (product-inverse g law a l)) in
       subst (HasWord g n generator) e (power-word a p.0 w)
+
+  pub words-generate : ((a : ℕ) → a < g.order → HasWord g n generator a) → IsGenerated g n generator
+  words-generate f a l = ∣ f a l ∣₁
+
+  -- what holds of 0 and is kept by products with generators on the left holds of each word
+  word-holds : (P : ℕ → Type 0) → P 0 → ((i a : ℕ) → i < n → a < g.order → P a → P (g.product (generator i) a)) → (is : List ℕ) → AllBelow n is → P (word g.product generator is)
+  word-holds P none more [] h = none
+  word-holds P none more (i ∷ is) h = more i (word g.product generator is) h.0 (word-below is h.1) (word-holds P none more is h.1)
+
+  -- and so of each element of what the generators generate, for every property of one proof
+  pub generated-holds : IsGenerated g n generator → (P : ℕ → Type 0) → ((a : ℕ) → a < g.order → IsProp (P a)) → P 0
+      → ((i a : ℕ) → i < n → a < g.order → P a → P (g.product (generator i) a)) → (a : ℕ) → a < g.order → P a
+  generated-holds generated P prop none more a l =
+      ∥∥₁_elim (generated a l) (prop a l) (λ w. subst P (sym w.2) (word-holds P none more w.0 w.1))
+
+  pub generated-test : IsGenerated g n generator → (test : ℕ → Bool) → test 0 ≡ true
+      → ((i a : ℕ) → i < n → a < g.order → test a ≡ true → test (g.product (generator i) a) ≡ true) → (a : ℕ) → a < g.order → test a ≡ true
+  generated-test generated test = generated-holds generated (λ a. test a ≡ true) (λ a l. Bool-set (test a) true)
