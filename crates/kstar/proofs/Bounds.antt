@@ -1,28 +1,11 @@
--- Bounds on the absolute values of whole numbers, also of products that were passed by value.
+-- Bounds of products of numbers that were passed by value.
 use Rattle.std.proofs.Common.{◌≡◌, subst, FitsSigned, w32, w64, ◌∙◌, ℕ, ◌*◌, ◌<◌, ◌≤◌, ◌^◌, ap, sym, ℤ, pos, negsuc, ◌*ℤ◌, ◌+ℤ◌, unsigned_abs, to_z, of_z, arith}
 use Rattle.std.specs.Int.{Width}
 use Rattle.std.proofs.lemmas.Int.{ints, unsigned_abs-mul, to_z-of_z, fits_signed_from_abs}
 use Rattle.std.proofs.Math.Nat.{mul-le-mul_left, mul-le-mul_right}
 use Rattle.algebra.specs.PassedLaws.{passed}
 use Rattle.space_ops.specs.Op.{IsWithin}
-
-pub abs_of_within : (n : ℕ) (x : ℤ) → IsWithin n x → unsigned_abs x ≤ n
-abs_of_within n (pos k) h = omega (arith, ints)
-abs_of_within n (negsuc k) h = omega (arith, ints)
-
-pub within_of_abs : (n : ℕ) (x : ℤ) → unsigned_abs x ≤ n → IsWithin n x
-within_of_abs n (pos k) h = (omega (arith, ints), omega (arith, ints))
-within_of_abs n (negsuc k) h = (omega (arith, ints), omega (arith, ints))
-
--- a product is within the product of the bounds
-pub within_product : (m n : ℕ) (a x : ℤ) → IsWithin m a → IsWithin n x → IsWithin (m * n) (a *ℤ x)
-within_product m n a x h k =
-    let p : unsigned_abs a ≤ m = abs_of_within m a h in
-    let q : unsigned_abs x ≤ n = abs_of_within n x k in
-    let e : unsigned_abs (a *ℤ x) ≡ unsigned_abs a * unsigned_abs x = unsigned_abs-mul a x in
-    let f : unsigned_abs a * unsigned_abs x ≤ m * unsigned_abs x = mul-le-mul_right (unsigned_abs x) p in
-    let g : m * unsigned_abs x ≤ m * n = mul-le-mul_left m q in
-    within_of_abs (m * n) (a *ℤ x) (omega arith)
+use Rattle.space_ops.specs.WithinLaws.{abs_of_within, within_of_abs, within_product}
 
 -- a product of numbers that were passed by value
 pub passed_product : (a x : ℤ) → FitsSigned w32 a → FitsSigned w32 x → (n : ℕ) → n < 2 ^ 31 → IsWithin n (a *ℤ x)
@@ -51,6 +34,3 @@ widened_product a x r s f g k l d e h =
     let b : unsigned_abs (a *ℤ x) ≤ 51539607552000 = abs_of_within 51539607552000 (a *ℤ x) w in
     let p : passed w64 r *ℤ passed w64 s ≡ a *ℤ x = (λ i. (to_z-of_z w64 r k ∙ d ∙ to_z-of_z w32 a f) i *ℤ (to_z-of_z w64 s l ∙ e ∙ to_z-of_z w32 x g) i) in
     subst (IsWithin 51539607552000) (sym (ap (passed w64) p ∙ to_z-of_z w64 (a *ℤ x) (fits_signed_from_abs w64 (a *ℤ x) (omega arith)))) w
-
-pub within_more : (m n : ℕ) (x : ℤ) → m ≤ n → IsWithin m x → IsWithin n x
-within_more m n x l h = (omega (arith, ints, h.0), omega (arith, ints, h.1))

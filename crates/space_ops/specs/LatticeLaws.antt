@@ -4,6 +4,7 @@
 -- centring-lattice: centring vectors
 -- edges-lattice: a lattice vector and whole cell edges
 -- differ-refl, differ-sym, differ-trans: translations that differ by a lattice vector
+-- difference_step, minus_difference, zero_difference: differences of vectors
 -- image-lattice: images under a matrix that keeps the centring vectors
 -- below_one, below_two, below_three, below_four: a property of each number below 1, 2, 3 or 4
 use Rattle.std.proofs.Common.{◌≡◌, refl, sym, ap, ◌∙◌, subst, ℕ, zero, suc, ◌<◌, ℤ, pos, negsuc, length, arith}
@@ -146,13 +147,13 @@ image-lattice lattice r t keep h =
     subst (IsLatticeVector lattice) (sym (ap (image_under whole r) h.is ∙ image_under-sum whole whole_ring r (pos 12) c h.edges))
     (edges-lattice lattice (image_under whole r c) (image_under whole r h.edges) (keep h.centring h.listed))
 
-difference_step : (r s t : Vector ℤ) → vector_sum whole (vector_difference r s) (vector_difference s t) ≡ vector_difference r t
+pub difference_step : (r s t : Vector ℤ) → vector_sum whole (vector_difference r s) (vector_difference s t) ≡ vector_difference r t
 difference_step r s t = same_vector _ _ (omega (arith, ints)) (omega (arith, ints)) (omega (arith, ints))
 
-minus_difference : (s t : Vector ℤ) → minus_vector whole (vector_difference s t) ≡ vector_difference t s
+pub minus_difference : (s t : Vector ℤ) → minus_vector whole (vector_difference s t) ≡ vector_difference t s
 minus_difference s t = same_vector _ _ (omega (arith, ints)) (omega (arith, ints)) (omega (arith, ints))
 
-zero_difference : (t : Vector ℤ) → zero_vector whole ≡ vector_difference t t
+pub zero_difference : (t : Vector ℤ) → zero_vector whole ≡ vector_difference t t
 zero_difference t = same_vector _ _ (omega (arith, ints)) (omega (arith, ints)) (omega (arith, ints))
 
 -- differences by lattice vectors compose, turn round, and hold of each translation and itself

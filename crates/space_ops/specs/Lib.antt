@@ -2,6 +2,7 @@ pub mod Matrix
 pub mod MatrixLaws
 pub mod Seitz
 pub mod Op
+pub mod WithinLaws
 pub mod OpLaws
 pub mod OpText
 pub mod OpTextLaws

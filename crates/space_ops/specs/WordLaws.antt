@@ -8,6 +8,7 @@
 -- word-difference: two words of one rotation differ by a pure translation that is a word
 -- word-image: the image of a lattice vector under a word's rotation is a pure translation that is a word
 -- extra-from_difference, extra-from_image: where these are outside the lattice there is an extra translation
+-- back_translation: a translation and its opposite
 use Rattle.std.proofs.Common.{◌≡◌, refl, sym, ap, ◌∙◌, subst, ℕ, ◌<◌, inl, inr, ℤ, pos, List, [], ◌∷◌, ◌++◌, length, arith}
 use Rattle.std.proofs.lemmas.Int.{ints}
 use Rattle.space_ops.specs.declared.op.Op.{Op}
@@ -32,7 +33,8 @@ translation v = record { rot = unit_matrix whole; shift = v }
 pub same_product : (g g' h h' : Seitz ℤ) → g ≡ g' → h ≡ h' → seitz_product whole g h ≡ seitz_product whole g' h'
 same_product g g' h h' e f = λ i. seitz_product whole (e i) (f i)
 
-back_translation : (v : Vector ℤ) → seitz_product whole (translation v) (translation (minus_vector whole v)) ≡ seitz_identity whole
+-- a translation after its opposite
+pub back_translation : (v : Vector ℤ) → seitz_product whole (translation v) (translation (minus_vector whole v)) ≡ seitz_identity whole
 back_translation v =
     same_seitz _ _ (matrix_times-unit whole whole_ring (unit_matrix whole))
     (same_vector _ _ (omega (arith, ints)) (omega (arith, ints)) (omega (arith, ints)))

@@ -13,42 +13,12 @@ use Rattle.space_ops.specs.Op.{vector_of}
 use Rattle.space_ops.specs.Lattice.{centrings_of, twelfths}
 use Rattle.space_ops.specs.Words.{centring_at, IsLatticeVector}
 use Rattle.space_ops.specs.LeastShift.{vector_cmp, IsTwelfth, IsInCell}
+use Rattle.super_group.specs.TranslationLaws.{centrings-in_cell}
 use Rattle.super_group.specs.TranslationsBefore.{IsBefore, IsAt, HasLayer, HasColumn, HasPoint}
 
 -- the point (x, y, z)
 abbrev pub point_at : ℕ → ℕ → ℕ → Vector ℤ
 point_at x y z = vector_of (twelfths x y z)
-
-by_one : (Q : ℕ → Type 0) → Q 0 → (i : ℕ) → i < 1 → Q i
-by_one Q a zero l = a
-by_one Q a (suc i) l = absurd (omega arith)
-
-by_two : (Q : ℕ → Type 0) → Q 0 → Q 1 → (i : ℕ) → i < 2 → Q i
-by_two Q a b zero l = a
-by_two Q a b (suc i) l = by_one (λ k. Q (suc k)) b i (omega arith)
-
-pub by_three : (Q : ℕ → Type 0) → Q 0 → Q 1 → Q 2 → (i : ℕ) → i < 3 → Q i
-by_three Q a b c zero l = a
-by_three Q a b c (suc i) l = by_two (λ k. Q (suc k)) b c i (omega arith)
-
-by_four : (Q : ℕ → Type 0) → Q 0 → Q 1 → Q 2 → Q 3 → (i : ℕ) → i < 4 → Q i
-by_four Q a b c d zero l = a
-by_four Q a b c d (suc i) l = by_three (λ k. Q (suc k)) b c d i (omega arith)
-
-in_cell : (x y z : ℕ) → x < 12 → y < 12 → z < 12 → IsInCell (point_at x y z)
-in_cell x y z k l m = ((omega (arith, ints), omega (arith, ints)), (omega (arith, ints), omega (arith, ints)), (omega (arith, ints), omega (arith, ints)))
-
--- centring vectors are in the cell
-centring-in_cell : (lattice : Lattice) (i : ℕ) → i < length (centrings_of lattice) → IsInCell (centring_at lattice i)
-centring-in_cell P = by_one (λ i. IsInCell (centring_at P i)) (in_cell 0 0 0 (omega arith) (omega arith) (omega arith))
-centring-in_cell A = by_two (λ i. IsInCell (centring_at A i)) (in_cell 0 0 0 (omega arith) (omega arith) (omega arith)) (in_cell 0 6 6 (omega arith) (omega arith) (omega arith))
-centring-in_cell B = by_two (λ i. IsInCell (centring_at B i)) (in_cell 0 0 0 (omega arith) (omega arith) (omega arith)) (in_cell 6 0 6 (omega arith) (omega arith) (omega arith))
-centring-in_cell C = by_two (λ i. IsInCell (centring_at C i)) (in_cell 0 0 0 (omega arith) (omega arith) (omega arith)) (in_cell 6 6 0 (omega arith) (omega arith) (omega arith))
-centring-in_cell I = by_two (λ i. IsInCell (centring_at I i)) (in_cell 0 0 0 (omega arith) (omega arith) (omega arith)) (in_cell 6 6 6 (omega arith) (omega arith) (omega arith))
-centring-in_cell R = by_three (λ i. IsInCell (centring_at R i)) (in_cell 0 0 0 (omega arith) (omega arith) (omega arith)) (in_cell 8 4 4 (omega arith) (omega arith) (omega arith)) (in_cell 4 8 8 (omega arith) (omega arith) (omega arith))
-centring-in_cell F =
-    by_four (λ i. IsInCell (centring_at F i)) (in_cell 0 0 0 (omega arith) (omega arith) (omega arith)) (in_cell 0 6 6 (omega arith) (omega arith) (omega arith))
-    (in_cell 6 0 6 (omega arith) (omega arith) (omega arith)) (in_cell 6 6 0 (omega arith) (omega arith) (omega arith))
 
 -- a coordinate, and that of the centring vector
 at_twelfth : (c u : ℤ) (x : ℕ) → IsTwelfth c → pos x ≡ c +ℤ (pos 12 *ℤ u) → IsAt c x
@@ -62,13 +32,13 @@ module _ (lattice : Lattice) where
   pub lattice-layer : (x : ℕ) (v : Vector ℤ) → IsLatticeVector lattice v → v.x ≡ pos x → HasLayer (centrings_of lattice) x
   lattice-layer x v h e =
       let c = centring_at lattice h.centring in
-      let k = centring-in_cell lattice h.centring h.listed in
+      let k = centrings-in_cell lattice h.centring h.listed in
       (h.centring, h.listed, at_twelfth c.x h.edges.x x k.0 (sym e ∙ ap (λ (w : Vector ℤ). w.x) h.is))
 
   pub lattice-column : (x y : ℕ) (v : Vector ℤ) → IsLatticeVector lattice v → v.x ≡ pos x → v.y ≡ pos y → HasColumn (centrings_of lattice) x y
   lattice-column x y v h e f =
       let c = centring_at lattice h.centring in
-      let k = centring-in_cell lattice h.centring h.listed in (
+      let k = centrings-in_cell lattice h.centring h.listed in (
         h.centring,
         h.listed,
         at_twelfth c.x h.edges.x x k.0 (sym e ∙ ap (λ (w : Vector ℤ). w.x) h.is),
@@ -78,7 +48,7 @@ module _ (lattice : Lattice) where
   pub lattice-point : (x y z : ℕ) → IsLatticeVector lattice (point_at x y z) → HasPoint (centrings_of lattice) x y z
   lattice-point x y z h =
       let c = centring_at lattice h.centring in
-      let k = centring-in_cell lattice h.centring h.listed in (
+      let k = centrings-in_cell lattice h.centring h.listed in (
         h.centring,
         h.listed,
         at_twelfth c.x h.edges.x x k.0 (ap (λ (w : Vector ℤ). w.x) h.is),

@@ -18,7 +18,7 @@ use Rattle.space_ops.specs.Seitz.{Seitz, seitz_product, seitz_inverse, seitz_ide
 use Rattle.space_ops.specs.OpLaws.{same_seitz, seitz-back}
 use Rattle.space_ops.specs.Lattice.{centrings_of}
 use Rattle.space_ops.specs.Words.{op_at, centring_at, cell_edges, IsLatticeVector, IsStep, AreSteps, word_value}
-use Rattle.space_ops.specs.WordLaws.{translation, word-step, word-lattice}
+use Rattle.space_ops.specs.WordLaws.{translation, back_translation, word-step, word-lattice}
 use Rattle.space_ops.specs.LatticeLaws.{zero-lattice, sum-lattice, minus-lattice, centring-lattice}
 use Rattle.super_group.specs.Quotient.{SupercellGroup, IsQuotient, IsMember, IsNumbered, order_of, element_of, number_of, quotient_group, motions_of, generators_of}
 use Rattle.super_group.specs.QuotientLaws.{quotient-numbered, quotient-lawful, number-product, number-identity}
@@ -69,9 +69,6 @@ lattice_vectors lattice holds more back none one_x one_y one_z centrings v h =
 
 translation-sum : (v w : Vector ℤ) → seitz_product whole (translation v) (translation w) ≡ translation (vector_sum whole v w)
 translation-sum v w = same_seitz _ _ refl (same_vector _ _ (omega (arith, ints)) (omega (arith, ints)) (omega (arith, ints)))
-
-translation-back : (v : Vector ℤ) → seitz_product whole (translation v) (translation (minus_vector whole v)) ≡ seitz_identity whole
-translation-back v = same_seitz _ _ refl (same_vector _ _ (omega (arith, ints)) (omega (arith, ints)) (omega (arith, ints)))
 
 -- the first centring vector is zero
 first_zero : (lattice : Lattice) → centring_at lattice 0 ≡ zero_vector whole
@@ -149,7 +146,7 @@ module _ (s : SupercellGroup) (quotient : IsQuotient s) where
       let m = minus-lattice s.parent.lattice v h.lattice in
       record {
         lattice = m;
-        has_word = back-number (translation v) (translation (minus_vector whole v)) (member-along v h) (word-lattice s.parent.generators s.parent.lattice (minus_vector whole v) m) (translation-back v) h.has_word;
+        has_word = back-number (translation v) (translation (minus_vector whole v)) (member-along v h) (word-lattice s.parent.generators s.parent.lattice (minus_vector whole v) m) (back_translation v) h.has_word;
       }
 
   reached-zero : IsReached (zero_vector whole)

@@ -23,7 +23,7 @@ use Rattle.space_ops.specs.Matrix.{Matrix, Vector, matrix_times, image_under, ve
 use Rattle.space_ops.specs.MatrixLaws.{same_vector, image_under-difference}
 use Rattle.space_ops.specs.Seitz.{Seitz, seitz_product, seitz_inverse, inverse_matrix}
 use Rattle.space_ops.specs.Words.{op_at, vector_difference, cell_edges, IsLatticeVector}
-use Rattle.space_ops.specs.LatticeLaws.{zero-lattice, edges-lattice, sum-lattice}
+use Rattle.space_ops.specs.LatticeLaws.{zero-lattice, edges-lattice, sum-lattice, difference_step, minus_difference, zero_difference}
 use Rattle.space_ops.specs.WordLaws.{word-inverse}
 use Rattle.space_ops.specs.GroupLaws.{word-unimodular, parent-word}
 use Rattle.super_group.specs.Supercell.{entry, multiplier, edge, IsSupercell, IsCell, IsSameElement, IsInside, reduced}
@@ -97,15 +97,6 @@ cell-lattice lattice d v c =
   where
     along : (m : ℕ) (u x : ℤ) → x ≡ pos (12 * m) *ℤ u → pos 0 +ℤ (pos 12 *ℤ (pos m *ℤ u)) ≡ x
     along m u x e = whole_ring.add_zero (pos 12 *ℤ (pos m *ℤ u)) ∙ sym (whole_ring.mul_assoc (pos 12) (pos m) u) ∙ sym e
-
-minus_difference : (s t : Vector ℤ) → minus_vector whole (vector_difference s t) ≡ vector_difference t s
-minus_difference s t = same_vector _ _ (omega (arith, ints)) (omega (arith, ints)) (omega (arith, ints))
-
-difference_step : (r s t : Vector ℤ) → vector_sum whole (vector_difference r s) (vector_difference s t) ≡ vector_difference r t
-difference_step r s t = same_vector _ _ (omega (arith, ints)) (omega (arith, ints)) (omega (arith, ints))
-
-zero_difference : (t : Vector ℤ) → zero_vector whole ≡ vector_difference t t
-zero_difference t = same_vector _ _ (omega (arith, ints)) (omega (arith, ints)) (omega (arith, ints))
 
 pub cell_differ-sym : (d : List ℕ) (s t : Vector ℤ) → IsCell d (vector_difference s t) → IsCell d (vector_difference t s)
 cell_differ-sym d s t h = subst (IsCell d) (minus_difference s t) (cell_minus d (vector_difference s t) h)

@@ -4,7 +4,7 @@ use Rattle.space_ops.specs.Op.{vector_of, IsWithin}
 use Rattle.algebra.specs.Multiples.{IsMultiple}
 use Rattle.kstar.specs.WaveVector.{HasPhase}
 use Rattle.algebra.specs.PassedLaws.{passed-from, passed-to}
-use Rattle.kstar.proofs.Bounds.{within_more}
+use Rattle.space_ops.specs.WithinLaws.{within_more}
 use Rattle.kstar.proofs.phase.first_bad.Goals as goal
 
 pub lowest-requires-clause-near : goal.lowest-requires-clause-near

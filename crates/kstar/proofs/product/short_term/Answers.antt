@@ -1,5 +1,6 @@
 use Rattle.std.proofs.Common.{arith}
-use Rattle.kstar.proofs.Bounds.{passed_product, passed_product_value, within_product}
+use Rattle.space_ops.specs.WithinLaws.{within_product}
+use Rattle.kstar.proofs.Bounds.{passed_product, passed_product_value}
 use Rattle.kstar.proofs.product.short_term.Goals as goal
 
 pub returns-clause-value : goal.returns-clause-value

@@ -1,5 +1,6 @@
 use Rattle.std.proofs.Common.{rules, arith}
-use Rattle.kstar.proofs.Bounds.{passed_product, within_product}
+use Rattle.space_ops.specs.WithinLaws.{within_product}
+use Rattle.kstar.proofs.Bounds.{passed_product}
 use Rattle.kstar.proofs.wave_vector.times.Goals as goal
 
 pub returns-clause-within : goal.returns-clause-within
