@@ -8,7 +8,10 @@ const ROOM: usize = 65_536;
 
 // The size of a stream's pieces, and the call that fails.
 fn stream_of(part: Option<&str>) -> (usize, u64) {
-    let (piece, call) = part.unwrap_or("4096 0").split_once(' ').unwrap_or(("4096", "0"));
+    let (piece, call) = part
+        .unwrap_or("4096 0")
+        .split_once(' ')
+        .unwrap_or(("4096", "0"));
     (piece.parse().unwrap_or(4096), call.parse().unwrap_or(0))
 }
 
@@ -41,7 +44,11 @@ fn print(alloc: Global, head: &str, code: u8, out: &[u8], err: &[u8]) -> Result<
 pub fn answer(alloc: Global, case: &str) -> Result<Text, NoMemory> {
     let (head, body) = case.split_once('\n').unwrap_or((case, ""));
     let mut parts = head.split(" | ");
-    let words = parts.next().unwrap_or("").split(' ').collect::<Vec<&str>>(alloc)?;
+    let words = parts
+        .next()
+        .unwrap_or("")
+        .split(' ')
+        .collect::<Vec<&str>>(alloc)?;
     let mut source = source_of(alloc, parts.next(), body)?;
     let mut out = sink_of(alloc, parts.next())?;
     let mut err = sink_of(alloc, parts.next())?;
