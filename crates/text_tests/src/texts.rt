@@ -35,7 +35,10 @@ const TERMS: [Term; 2] = [
 
 fn are_kept(alloc: Global) -> Result<bool, NoMemory> {
     let number = NumText::from_vec(TERMS.to_vec(alloc)?);
-    let list = NumList::from_vec(Vec::from_array(alloc, [number])?);
+    let Ok(numbers) = Vec::from_array(alloc, [number]) else {
+        return Err(NoMemory);
+    };
+    let list = NumList::from_vec(numbers);
     let [number] = list.as_slice() else {
         return Ok(false);
     };
