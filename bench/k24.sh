@@ -1,12 +1,12 @@
 #!/bin/sh
 # Counts the instructions of a sum and of a product of two values of K24, with valgrind.
-# Run it in the top folder, after `rt test` in crates/cyclo24: it measures the test binary that this left.
+# Run it in the top folder, after `rt test` in crates/number_tests: it measures the test binary that this left.
 # Each measured test forms 1,000 sums and 1,000 products.
 set -eu
-binary=crates/cyclo24/out/cyclo24_tests
+binary=crates/number_tests/out/number_tests_tests
 for values in on_small_values on_small_fractions near_2_to_60; do
     profile=$(mktemp)
-    valgrind --tool=callgrind --callgrind-out-file="$profile" "$binary" "k24::tests::measured_$values" > /dev/null 2>&1
+    valgrind --tool=callgrind --callgrind-out-file="$profile" "$binary" "measured_sums::$values" > /dev/null 2>&1
     callgrind_annotate --inclusive=yes "$profile" | awk -v values="$values" '
         /K24Field::mul/ && !product { gsub(",", "", $1); product = $1 / 1000 }
         /measured::</ && !both { gsub(",", "", $1); both = $1 / 1000 }

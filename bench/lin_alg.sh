@@ -1,12 +1,12 @@
 #!/bin/sh
 # Counts the instructions of insertions into a form over K24, with valgrind, and the operations of
-# K24 that they need. Run it in the top folder, after `rt test` in crates/lin_alg: it measures the test binary
+# K24 that they need. Run it in the top folder, after `rt test` in crates/number_tests: it measures the test binary
 # that this left. The rest is what isn't spent in the functions of cyclo24. The compiler writes two
 # operations into the loops, so that the rest holds them too: a test for zero of an entry (14
 # instructions and its jump, with one `ptest`, by which they are counted), and of a difference what
 # lies around its sum and its reduction (33).
 set -eu
-binary=crates/lin_alg/out/lin_alg_tests
+binary=crates/number_tests/out/number_tests_tests
 tests=$(mktemp)
 objdump -d --no-show-raw-insn "$binary" | awk '
     />:$/ { inside = /Echelon::insert|lin_alg::elimination::/ }
@@ -14,7 +14,7 @@ objdump -d --no-show-raw-insn "$binary" | awk '
 for rows in 24_by_24 27_by_1152; do
     profile=$(mktemp)
     valgrind --tool=callgrind --dump-instr=yes --dump-line=no --compress-pos=no --compress-strings=no \
-        --callgrind-out-file="$profile" "$binary" "tests::measured::of_$rows" > /dev/null 2>&1
+        --callgrind-out-file="$profile" "$binary" "measured_forms::of_$rows" > /dev/null 2>&1
     zeros=$(awk '
         NR == FNR { tests[$1]; next }
         /^fn=/ { inside = /Echelon::insert|lin_alg::elimination::/ }

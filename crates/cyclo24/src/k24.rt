@@ -167,6 +167,3 @@ impl Field for K24 {
 
     ghost value_cmp = { exact24_cmp };
 }
-
-#[cfg(test)]
-mod tests;

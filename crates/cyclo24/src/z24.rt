@@ -216,6 +216,3 @@ impl Z24 {
         Ok(Text::from_string(s7))
     }
 }
-
-#[cfg(test)]
-mod tests;

@@ -15,8 +15,6 @@ mod part;
 mod rotation;
 mod symbol;
 mod table;
-#[cfg(test)]
-mod tests;
 mod words;
 
 pub use symbol::{BadHall, Generators, read};

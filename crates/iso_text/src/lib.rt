@@ -27,8 +27,6 @@ mod reading;
 mod sections;
 mod sink;
 mod source;
-#[cfg(test)]
-mod tests;
 mod text;
 mod word_lists;
 

@@ -22,6 +22,3 @@ mod wave_vector;
 pub use laws::{equivalence_is_equivalence, image_of_a_product, phases_of_the_little_group};
 pub use star::{Star, StarError};
 pub use wave_vector::KVector;
-
-#[cfg(test)]
-mod tests;

@@ -18,8 +18,6 @@ mod matrix;
 mod memory;
 mod row;
 mod solving;
-#[cfg(test)]
-mod tests;
 
 pub use acts::Acts;
 pub use echelon::{Echelon, Grew};

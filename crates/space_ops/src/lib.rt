@@ -25,6 +25,3 @@ mod steps;
 pub use group::{Group, GroupError};
 pub use lattice::{Lattice, law_of_letters};
 pub use op::{Op, TWELFTHS};
-
-#[cfg(test)]
-mod tests;

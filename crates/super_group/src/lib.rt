@@ -15,6 +15,3 @@ mod translations;
 
 pub use denominators::{are_denominators, multipliers};
 pub use quotient::{MAX_ORDER, Quotient, QuotientError};
-
-#[cfg(test)]
-mod tests;

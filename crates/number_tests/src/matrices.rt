@@ -1,0 +1,109 @@
+// Products and solutions over K24, worked out by hand.
+ghost use Rattle.std.specs.Prelude.{◌≡◌, length};
+
+use crate::rows::two;
+use cyclo24::{Field, K24};
+use iso_text::NoMemory;
+use lin_alg::{LinError, Matrix, Row, are_independent, solve};
+use std::alloc::Global;
+use std::test::Fail;
+
+/// Whether row i of the matrix is this row of whole numbers.
+pub fn row_is(matrix: &Matrix<K24>, i: usize, row: &[i64]) -> bool {
+    if i >= matrix.rows() || row.len() != matrix.cols() {
+        return false;
+    }
+    for j in 0..matrix.cols() {
+        if matrix.get(i, j) != K24::ratio(row[j], 1) {
+            return false;
+        }
+    }
+    true
+}
+
+fn set_row(matrix: &mut Matrix<K24>, i: usize, row: [i64; 2]) {
+    if i < matrix.rows() && matrix.cols() == 2 {
+        matrix.set(i, 0, K24::ratio(row[0], 1));
+        matrix.set(i, 1, K24::ratio(row[1], 1));
+    }
+}
+
+// The matrix of these two rows.
+fn square(alloc: Global, rows: [[i64; 2]; 2]) -> Result<Matrix<K24>, NoMemory> {
+    let mut matrix = Matrix::new(alloc, 2, 2)?;
+    set_row(&mut matrix, 0, rows[0]);
+    set_row(&mut matrix, 1, rows[1]);
+    Ok(matrix)
+}
+
+fn is_product(
+    alloc: Global,
+    a: [[i64; 2]; 2],
+    b: [[i64; 2]; 2],
+    want: [[i64; 2]; 2],
+) -> Result<bool, LinError> {
+    let a = square(alloc, a)?;
+    let b = square(alloc, b)?;
+    if a.rows() != 2 || a.cols() != 2 || b.rows() != 2 || b.cols() != 2 {
+        return Ok(false);
+    }
+    let product = a.mul(alloc, &b)?;
+    Ok(row_is(&product, 0, &want[0]) && row_is(&product, 1, &want[1]))
+}
+
+#[test]
+fn products(rt: HostRuntime) -> Result<(), Fail> {
+    let alloc = rt.alloc();
+    let a = [[1, 1], [0, 1]];
+    assert!(rt; is_product(alloc, a, a, [[1, 2], [0, 1]])?);
+    assert!(rt; is_product(alloc, a, [[0, 2], [3, 0]], [[3, 2], [3, 0]])?);
+    Ok(())
+}
+
+// Solves where the rows are independent; `None` where they aren't, too.
+fn solved(alloc: Global, rows: &Matrix<K24>, target: &[K24]) -> Result<Option<Row<K24>>, LinError>
+    requires { length target.now ≡ rows.now.cols }
+{
+    match are_independent(alloc, rows) {
+        Ok(true) => solve(alloc, rows, target),
+        Ok(false) => Ok(None),
+        Err(error) => Err(error),
+    }
+}
+
+// Whether x with x A = (1, 2) is this row, where A has these rows.
+fn is_solution(alloc: Global, rows: &Matrix<K24>, want: &[K24]) -> Result<bool, LinError> {
+    let target = two([1, 2]);
+    if target.len() != rows.cols() {
+        return Ok(false);
+    }
+    match solved(alloc, rows, &target)? {
+        Some(x) => Ok(x.as_slice() == want),
+        None => Ok(want.is_empty()),
+    }
+}
+
+#[test]
+fn solutions(rt: HostRuntime) -> Result<(), Fail> {
+    let alloc = rt.alloc();
+    let rows = square(alloc, [[1, 1], [0, 2]])?;
+    assert!(rt; is_solution(alloc, &rows, &[K24::ratio(1, 1), K24::ratio(1, 2)])?);
+    Ok(())
+}
+
+#[test]
+fn no_solutions(rt: HostRuntime) -> Result<(), Fail> {
+    let alloc = rt.alloc();
+    let mut one = Matrix::new(alloc, 1, 2)?;
+    set_row(&mut one, 0, [1, 1]);
+    assert!(rt; are_independent(alloc, &one)?);
+    assert!(rt; is_solution(alloc, &one, &[])?);
+    Ok(())
+}
+
+#[test]
+fn rows_that_depend(rt: HostRuntime) -> Result<(), Fail> {
+    let twice = square(rt.alloc(), [[1, 1], [2, 2]])?;
+    assert!(rt; !are_independent(rt.alloc(), &twice)?);
+    Ok(())
+}

@@ -1,0 +1,57 @@
+// One case: a run of the program over streams in memory, and what it left.
+use iso_cli::isodist;
+use iso_text::{MemSink, MemSource, NoMemory, Text};
+use std::alloc::Global;
+
+/// Room for each report.
+const ROOM: usize = 65_536;
+
+// The size of a stream's pieces, and the call that fails.
+fn stream_of(part: Option<&str>) -> (usize, u64) {
+    let (piece, call) = part
+        .unwrap_or("4096 0")
+        .split_once(' ')
+        .unwrap_or(("4096", "0"));
+    (piece.parse().unwrap_or(4096), call.parse().unwrap_or(0))
+}
+
+fn source_of(alloc: Global, part: Option<&str>, body: &str) -> Result<MemSource, NoMemory> {
+    let (piece, call) = stream_of(part);
+    let fail = [call].to_vec(alloc)?;
+    let bytes = body.strip_suffix("\\\n").unwrap_or(body).as_bytes();
+    Ok(MemSource::new(bytes.to_vec(alloc)?, piece.max(1), fail))
+}
+
+fn sink_of(alloc: Global, part: Option<&str>) -> Result<MemSink, NoMemory> {
+    let (piece, call) = stream_of(part);
+    MemSink::new(alloc, ROOM, piece.max(1), [call].to_vec(alloc)?)
+}
+
+fn print(alloc: Global, head: &str, code: u8, out: &[u8], err: &[u8]) -> Result<Text, NoMemory> {
+    let mut text = Text::new(alloc);
+    text.push(b"%% ")?;
+    text.push(head.as_bytes())?;
+    text.push(b"\nstatus ")?;
+    text.push_number(u64::from(code))?;
+    text.push(b"\n")?;
+    text.push(out)?;
+    text.push(b"-- err\n")?;
+    text.push(err)?;
+    Ok(text)
+}
+
+/// What the program answers to a case.
+pub fn answer(alloc: Global, case: &str) -> Result<Text, NoMemory> {
+    let (head, body) = case.split_once('\n').unwrap_or((case, ""));
+    let mut parts = head.split(" | ");
+    let words = parts
+        .next()
+        .unwrap_or("")
+        .split(' ')
+        .collect::<Vec<&str>>(alloc)?;
+    let mut source = source_of(alloc, parts.next(), body)?;
+    let mut out = sink_of(alloc, parts.next())?;
+    let mut err = sink_of(alloc, parts.next())?;
+    let status = isodist(alloc, &words, &mut source, &mut out, &mut err);
+    print(alloc, head, status.code(), out.as_slice(), err.as_slice())
+}
