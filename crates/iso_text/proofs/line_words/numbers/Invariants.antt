@@ -1,4 +1,5 @@
 use Rattle.std.proofs.Common.{length}
+use Rattle.iso_text.proofs.WordsGrammar.{words-sound}
 use Rattle.iso_text.proofs.ListLemmas.{AreRead}
 use Rattle.iso_text.proofs.line_words.numbers.Given as goal
 
