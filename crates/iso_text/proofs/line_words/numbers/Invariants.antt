@@ -1,5 +1,6 @@
 use Rattle.std.proofs.Common.{length}
-use Rattle.iso_text.proofs.WordsGrammar.{words-sound}
+use Rattle.iso_text.proofs.SectionsGrammar.{end-sound}
+use Rattle.iso_text.proofs.SectionsComplete.{end-complete}
 use Rattle.iso_text.proofs.ListLemmas.{AreRead}
 use Rattle.iso_text.proofs.line_words.numbers.Given as goal
 
