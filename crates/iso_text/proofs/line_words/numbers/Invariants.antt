@@ -1,6 +1,5 @@
 use Rattle.std.proofs.Common.{length}
-use Rattle.iso_text.proofs.SectionsGrammar.{end-sound}
-use Rattle.iso_text.proofs.SectionsComplete.{end-complete}
+use Rattle.iso_text.proofs.HallGrammar.{hall-sound}
 use Rattle.iso_text.proofs.ListLemmas.{AreRead}
 use Rattle.iso_text.proofs.line_words.numbers.Given as goal
 
