@@ -72,28 +72,18 @@ key_known word.Value = refl
 key_known word.Axial = refl
 key_known word.End = refl
 
-next_key : (w key : List ℕ) (k kw : Keyword) (o : Option Keyword) → key_of k ≡ key → (o ≡ Some kw → w ≡ key_of kw) → (b : Bool) → bytes_eq w key ≡ b → (if b then Some k else o) ≡ Some kw → w ≡ key_of kw
-next_key w key k kw o is more true test e = let same : k ≡ kw = cc in same_text w key test ∙ sym is ∙ ap key_of same
-next_key w key k kw o is more false test e = more e
+next_by : (w : List ℕ) (k kw : Keyword) (o : Option Keyword) → (o ≡ Some kw → w ≡ key_of kw) → (b : Bool) → bytes_eq w (key_of k) ≡ b → (if b then Some k else o) ≡ Some kw → w ≡ key_of kw
+next_by w k kw o more true test e = let same : k ≡ kw = cc in same_text w (key_of k) test ∙ ap key_of same
+next_by w k kw o more false test e = more e
+
+-- this keyword, or one of those behind it
+next_key : (w : List ℕ) (k kw : Keyword) (o : Option Keyword) → (o ≡ Some kw → w ≡ key_of kw) → (if bytes_eq w (key_of k) then Some k else o) ≡ Some kw → w ≡ key_of kw
+next_key w k kw o more e = next_by w k kw o more (bytes_eq w (key_of k)) refl e
 
 keyword-sound : (w : List ℕ) (kw : Keyword) → keyword_of w ≡ Some kw → w ≡ key_of kw
 keyword-sound w kw =
-    (λ e. next_key w (codes "mat") word.Mat kw _ refl
-    (λ e. next_key w (codes "listed") word.Listed kw _ refl
-    (λ e. next_key w (codes "value") word.Value kw _ refl
-    (λ e. next_key w (codes "axial") word.Axial kw _ refl
-    (λ e. next_key w (codes "atom") word.Atom kw _ refl
-    (λ e. next_key w (codes "k") word.K kw _ refl
-    (λ e. next_key w (codes "irrep") word.Irrep kw _ refl
-    (λ e. next_key w (codes "op") word.Op kw _ refl
-    (λ e. next_key w (codes "realvector") word.RealVector kw _ refl
-    (λ e. next_key w (codes "isodist") word.Isodist kw _ refl
-    (λ e. next_key w (codes "hall") word.Hall kw _ refl
-    (λ e. next_key w (codes "lattice") word.Lattice kw _ refl
-    (λ e. next_key w (codes "tolerance") word.Tolerance kw _ refl
-    (λ e. next_key w (codes "cell") word.Cell kw _ refl
-    (λ e. next_key w (codes "end") word.End kw _ refl
-    (λ e. none_some e) (bytes_eq w (codes "end")) refl e) (bytes_eq w (codes "cell")) refl e) (bytes_eq w (codes "tolerance")) refl e) (bytes_eq w (codes "lattice")) refl e) (bytes_eq w (codes "hall")) refl e) (bytes_eq w (codes "isodist")) refl e) (bytes_eq w (codes "realvector")) refl e) (bytes_eq w (codes "op")) refl e) (bytes_eq w (codes "irrep")) refl e) (bytes_eq w (codes "k")) refl e) (bytes_eq w (codes "atom")) refl e) (bytes_eq w (codes "axial")) refl e) (bytes_eq w (codes "value")) refl e) (bytes_eq w (codes "listed")) refl e) (bytes_eq w (codes "mat")) refl e)
+    let none = λ (e : None ≡ Some kw). none_some {A = w ≡ key_of kw} e in
+    next_key w word.Mat kw _ (next_key w word.Listed kw _ (next_key w word.Value kw _ (next_key w word.Axial kw _ (next_key w word.Atom kw _ (next_key w word.K kw _ (next_key w word.Irrep kw _ (next_key w word.Op kw _ (next_key w word.RealVector kw _ (next_key w word.Isodist kw _ (next_key w word.Hall kw _ (next_key w word.Lattice kw _ (next_key w word.Tolerance kw _ (next_key w word.Cell kw _ (next_key w word.End kw _ none))))))))))))))
 
 -- a line is its keyword and the words behind it
 spells : (n : ℕ) (text : List ℕ) (line : Line) (words : List (List ℕ)) → AreWords (keyword line ∷ words) text → Says n words line → SpellsLine n text line

@@ -1,5 +1,4 @@
 use Rattle.std.proofs.Common.{length}
-use Rattle.iso_text.proofs.LinesGrammar.{said-sound}
 use Rattle.iso_text.proofs.ListLemmas.{AreRead}
 use Rattle.iso_text.proofs.line_words.numbers.Given as goal
 
