@@ -1,97 +1,147 @@
--- Where a reader of lines stands: what it has read so far, and what a line makes of that.
+-- Where a reader of lines stands: what it has read so far, and what a line makes of that. The
+-- definition of a file doesn't speak of it.
 --
+-- has_room n sections: section n is short of its most items, and those behind it are empty
 -- next_of d line: the draft with the line, or None where the line can't stand there
-use Rattle.std.specs.Prelude.{◌≡◌, ℕ, ℤ, ◌==◌, ◌&&◌, nat_lt, List, [], ◌∷◌, ◌++◌, length, Bool, if◌then◌else◌, Option, Some, None, is_none, is_some, option_and_then}
-use Rattle.iso_text.specs.FileValue.{File, file_with_hall}
+use Rattle.std.specs.Prelude.{◌≡◌, ℕ, zero, suc, ◌==◌, ◌&&◌, ◌||◌, not, nat_lt, List, [], ◌∷◌, ◌++◌, length, map, Bool, true, false, if◌then◌else◌, Option, Some, None, is_none, is_some, option_and_then}
+use Rattle.std.specs.List.{list_all}
+use Rattle.iso_text.specs.FileValue.{File}
+use Rattle.iso_text.specs.FileLines.{Section, sections, empty_file}
 use Rattle.iso_text.specs.File.{has_entries, is_new}
 use Rattle.iso_text.specs.LineKinds.{kind_of}
 use Rattle.iso_text.specs.declared.draft.Draft.{Draft}
 use Rattle.iso_text.specs.declared.draft.Stage.{Stage}
-use Rattle.iso_text.specs.declared.draft.Stage.TheVariants.{Begin, Headed, Body, Open, Block, Done}
+use Rattle.iso_text.specs.declared.draft.Stage.TheVariants as stage
 use Rattle.iso_text.specs.declared.line_kinds.IrrepLine.{IrrepLine}
 use Rattle.iso_text.specs.declared.line_kinds.Line.{Line}
-use Rattle.iso_text.specs.declared.line_kinds.Line.TheVariants.{Skip, Bad, Head, Hall, Irrep, K, Mat, Atom, Tolerance, Listed, End}
+use Rattle.iso_text.specs.declared.line_kinds.Line.TheVariants.{Skip, Bad, Head, Hall, Lattice, Op, Irrep, K, Mat, RealVector, Atom, Tolerance, Cell, Listed, Value, Axial, End}
 use Rattle.iso_text.specs.declared.numbers.Frac.{Frac}
 use Rattle.iso_text.specs.declared.read_error.ReadError.{ReadError}
 use Rattle.iso_text.specs.declared.read_error.ReadError.TheVariants.{BadText, NoMemory}
-use Rattle.iso_text.specs.declared.sections.AtomText.{AtomText}
 use Rattle.iso_text.specs.declared.sections.IrrepText.{IrrepText}
 use Rattle.iso_text.specs.declared.sections.MatText.{MatText}
+use Rattle.iso_text.specs.declared.sections.OpLine.{OpLine}
+use Rattle.iso_text.specs.declared.sections.VectorText.{VectorText}
 
 -- the file so far, at a stage
 abbrev pub draft : Stage → File → Draft
 draft stage f = record { stage = stage; document = f }
 
--- the file with the open block at its end, where a line of another section may follow
+-- the file with the open parent or block in it, where a line of another section may follow
 abbrev pub settled : Stage → File → Option File
-settled Body f = Some f
-settled (Block i) f = if length i.mats == 0 then None else Some (record f { irreps = f.irreps ++ i ∷ [] })
+settled stage.Body f = Some f
+settled (stage.Lattice n g) f = if length g.ops == 0 then None else Some (record f { hall_line = n; generators = Some g })
+settled (stage.Block i) f = if length i.mats == 0 then None else Some (record f { irreps = f.irreps ++ i ∷ [] })
 settled _ f = None
 
-abbrev pub on_head : Stage → File → Option Draft
-on_head Begin f = Some (draft Headed f)
-on_head _ f = None
+abbrev pub on_head : ℕ → Stage → Option Draft
+on_head format stage.Begin = Some (draft stage.Headed (empty_file format))
+on_head format _ = None
 
-abbrev pub on_hall : ℕ → List ℕ → Stage → Option Draft
-on_hall n text Headed = Some (draft Body (file_with_hall n text))
-on_hall n text _ = None
+abbrev pub on_hall : ℕ → List ℕ → Stage → File → Option Draft
+on_hall n text stage.Headed f = Some (draft stage.Body (record f { hall_line = n; hall = text }))
+on_hall n text _ f = None
 
--- whether a block of that name may follow
-abbrev pub takes_block : IrrepLine → File → Bool
-takes_block h f = length f.atoms == 0 && is_none f.tolerance && nat_lt (length f.irreps) 8 && is_new h.name f.irreps
+abbrev pub on_lattice : ℕ → ℕ → Stage → File → Option Draft
+on_lattice n letter stage.Headed f = if f.format == 2 then Some (draft (stage.Lattice n (record { letter = letter; ops = [] })) f) else None
+on_lattice n letter _ f = None
+
+abbrev pub on_op : OpLine → Stage → File → Option Draft
+on_op o (stage.Lattice n g) f = if nat_lt (length g.ops) 5 then Some (draft (stage.Lattice n (record g { ops = g.ops ++ o ∷ [] })) f) else None
+on_op o _ f = None
 
 abbrev pub on_irrep : IrrepLine → File → Option Draft
-on_irrep h f = if takes_block h f then Some (draft (Open h) f) else None
+on_irrep h f = if is_new h.name f.irreps then Some (draft (stage.Open h) f) else None
 
 abbrev pub on_k : List Frac → Stage → File → Option Draft
-on_k k (Open h) f = Some (draft (Block (record { name = h.name; line = h.line; size = h.size; k = k; mats = [] })) f)
+on_k k (stage.Open h) f = Some (draft (stage.Block (record { name = h.name; line = h.line; size = h.size; k = k; mats = []; vector = None })) f)
 on_k k _ f = None
 
 abbrev pub takes_mat : MatText → IrrepText → Bool
-takes_mat m i = nat_lt (length i.mats) 96 && has_entries i.size m
+takes_mat m i = is_none i.vector && nat_lt (length i.mats) 96 && has_entries i.size m
 
 abbrev pub on_mat : MatText → Stage → File → Option Draft
-on_mat m (Block i) f = if takes_mat m i then Some (draft (Block (record i { mats = i.mats ++ m ∷ [] })) f) else None
+on_mat m (stage.Block i) f = if takes_mat m i then Some (draft (stage.Block (record i { mats = i.mats ++ m ∷ [] })) f) else None
 on_mat m _ f = None
 
-abbrev pub on_atom : AtomText → File → Option Draft
-on_atom a f = if is_none f.tolerance && nat_lt (length f.atoms) 64 then Some (draft Body (record f { atoms = f.atoms ++ a ∷ [] })) else None
+abbrev pub takes_vector : IrrepText → File → Bool
+takes_vector i f = f.format == 2 && is_none i.vector && not (length i.mats == 0)
 
-abbrev pub on_tolerance : ℤ → File → Option Draft
-on_tolerance t f = if is_none f.tolerance then Some (draft Body (record f { tolerance = Some t })) else None
+abbrev pub on_vector : VectorText → Stage → File → Option Draft
+on_vector v (stage.Block i) f = if takes_vector i f then Some (draft (stage.Block (record i { vector = Some v })) f) else None
+on_vector v _ f = None
 
-abbrev pub on_listed : AtomText → File → Option Draft
-on_listed a f = if is_some f.tolerance && nat_lt (length f.listed) 4096 then Some (draft Body (record f { listed = f.listed ++ a ∷ [] })) else None
+-- how many items each section has
+abbrev pub counts_of : File → List ℕ
+counts_of f = map (λ s. length s.items) (sections f)
+
+-- section n is short of its most items, and those behind it are empty
+abbrev pub has_room : ℕ → List Section → Bool
+has_room n [] = false
+has_room zero (s ∷ behind) = nat_lt (length s.items) s.most && list_all (λ t. length t.items == 0) behind
+has_room (suc n) (s ∷ behind) = has_room n behind
+
+-- the sections of format 2 alone, and those that ask for a tolerance line
+abbrev pub is_second : ℕ → Bool
+is_second n = n == 3 || (n == 5 || n == 6)
+
+abbrev pub is_matched : ℕ → Bool
+is_matched n = n == 3 || n == 4
+
+-- whether an item of this section may stand next
+abbrev pub section_takes : ℕ → File → Bool
+section_takes n f = has_room n (sections f) && (not (is_second n) || f.format == 2) && (not (is_matched n) || is_some f.tolerance)
+
+-- the section that a line begins or goes on with
+abbrev pub section_of : Line → Option ℕ
+section_of (Irrep h) = Some 0
+section_of (Atom a) = Some 1
+section_of (Tolerance t) = Some 2
+section_of (Cell c) = Some 3
+section_of (Listed a) = Some 4
+section_of (Value v) = Some 5
+section_of (Axial v) = Some 6
+section_of _ = None
+
+-- the draft with an item of a section
+abbrev pub with_line : Line → File → Option Draft
+with_line (Irrep h) f = on_irrep h f
+with_line (Atom a) f = Some (draft stage.Body (record f { atoms = f.atoms ++ a ∷ [] }))
+with_line (Tolerance t) f = Some (draft stage.Body (record f { tolerance = Some t }))
+with_line (Cell c) f = Some (draft stage.Body (record f { cell = Some c }))
+with_line (Listed a) f = Some (draft stage.Body (record f { listed = f.listed ++ a ∷ [] }))
+with_line (Value v) f = Some (draft stage.Body (record f { values = f.values ++ v ∷ [] }))
+with_line (Axial v) f = Some (draft stage.Body (record f { axials = f.axials ++ v ∷ [] }))
+with_line _ f = None
 
 -- a line that begins or goes on with a section, or ends the file
 abbrev pub on_section : Line → File → Option Draft
-on_section (Irrep h) f = on_irrep h f
-on_section (Atom a) f = on_atom a f
-on_section (Tolerance t) f = on_tolerance t f
-on_section (Listed a) f = on_listed a f
-on_section End f = Some (draft Done f)
-on_section _ f = None
+on_section End f = Some (draft stage.Done f)
+on_section line f = option_and_then (λ n. if section_takes n f then with_line line f else None) (section_of line)
 
 -- the draft with the line
 abbrev pub next_of : Draft → Line → Option Draft
 next_of d Skip = Some d
 next_of d Bad = None
-next_of d Head = on_head d.stage d.document
-next_of d (Hall n text) = on_hall n text d.stage
+next_of d (Head format) = on_head format d.stage
+next_of d (Hall n text) = on_hall n text d.stage d.document
+next_of d (Lattice n letter) = on_lattice n letter d.stage d.document
+next_of d (Op o) = on_op o d.stage d.document
 next_of d (K k) = on_k k d.stage d.document
 next_of d (Mat m) = on_mat m d.stage d.document
+next_of d (RealVector v) = on_vector v d.stage d.document
 next_of d line = option_and_then (on_section line) (settled d.stage d.document)
 
 -- nothing is read yet
 abbrev pub begin : Draft
-begin = draft Begin (file_with_hall 0 [])
+begin = draft stage.Begin (empty_file 1)
 
 -- the file where the end is read
 abbrev pub finished : Draft → Option File
 finished d = done d.stage d.document
   where
     done : Stage → File → Option File
-    done Done f = Some f
+    done stage.Done f = Some f
     done _ f = None
 
 -- why the line isn't taken: it can't stand there, or memory is wanting

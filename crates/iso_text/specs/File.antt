@@ -1,37 +1,33 @@
 -- Which lists of lines are a file, what the file says, and which line is the first that can't go on
 -- as one.
 --
--- IsFileOf said f, IsStartOf said: what the lines say, those that are skipped left out, is the file f; can go on as a file
--- IsFile lines f, IsStart lines: the same of the lines
+-- IsSound f: the format, the counts and the names that a file has
+-- IsFile lines f, IsStart lines: the lines are the file f; can go on as a file
 -- HasCause lines e: the number in BadText is that of the first line that can't go on as a file
-use Rattle.std.specs.Prelude.{◌≡◌, ◌⊎◌, ℕ, ℤ, ◌≤◌, ◌+◌, ◌*◌, ◌==◌, ◌&&◌, nat_le, List, [], ◌∷◌, ◌++◌, length, map, filter, take, Bool, true, false, not, Option, Some, None}
-use Rattle.std.specs.List.{flat_map, list_all}
+use Rattle.std.specs.Prelude.{◌≡◌, ◌⊎◌, ℕ, ◌+◌, ◌*◌, ◌==◌, ◌&&◌, nat_le, List, [], ◌∷◌, ◌++◌, length, take, Bool, true, not, Option, Some, None, is_none}
+use Rattle.std.specs.List.{list_all}
 use Rattle.std.specs.Str.{bytes_eq}
+use Rattle.iso_text.specs.FileLines.{Section, sections, file_lines}
 use Rattle.iso_text.specs.FileValue.{File}
-use Rattle.iso_text.specs.LineKinds.{kind_of}
+use Rattle.iso_text.specs.LineSpellings.{SayLines}
 use Rattle.iso_text.specs.declared.read_error.ReadError.{ReadError}
 use Rattle.iso_text.specs.declared.read_error.ReadError.TheVariants.{BadText, NoMemory}
 use Rattle.iso_text.specs.declared.line_kinds.Line.{Line}
-use Rattle.iso_text.specs.declared.line_kinds.Line.TheVariants.{Skip, Head, Hall, Irrep, K, Mat, Atom, Tolerance, Listed, End}
 use Rattle.iso_text.specs.declared.sections.IrrepText.{IrrepText}
 use Rattle.iso_text.specs.declared.sections.MatText.{MatText}
+use Rattle.iso_text.specs.declared.sections.OpsText.{OpsText}
 
--- the lines of an irrep block
-abbrev pub block_lines : IrrepText → List Line
-block_lines i = Irrep (record { line = i.line; name = i.name; size = i.size }) ∷ K i.k ∷ map (λ m. Mat m) i.mats
+-- no line of format 2 alone
+abbrev pub is_first_format : File → Bool
+is_first_format f = is_none f.generators && list_all (λ i. is_none i.vector) f.irreps && is_none f.cell && length f.values == 0 && length f.axials == 0
 
--- no line, or one
-abbrev pub tolerance_lines : Option ℤ → List Line
-tolerance_lines None = []
-tolerance_lines (Some t) = Tolerance t ∷ []
+-- a Hall symbol, or 1 to 5 operations and no symbol
+abbrev pub is_parent : List ℕ → Option OpsText → Bool
+is_parent hall None = true
+is_parent hall (Some g) = length hall == 0 && nat_le 1 (length g.ops) && nat_le (length g.ops) 5
 
--- the lines before the last
-abbrev pub body_lines : File → List Line
-body_lines f = Head ∷ Hall f.hall_line f.hall ∷ (flat_map block_lines f.irreps ++ (map (λ a. Atom a) f.atoms ++ (tolerance_lines f.tolerance ++ map (λ a. Listed a) f.listed)))
-
--- the lines of a file in their order
-abbrev pub file_lines : File → List Line
-file_lines f = body_lines f ++ End ∷ []
+abbrev pub is_few : Section → Bool
+is_few s = nat_le (length s.items) s.most
 
 -- a square matrix of that size
 abbrev pub has_entries : ℕ → MatText → Bool
@@ -50,42 +46,28 @@ abbrev pub have_new_names : List IrrepText → List IrrepText → Bool
 have_new_names before [] = true
 have_new_names before (i ∷ irreps) = is_new i.name before && have_new_names (before ++ i ∷ []) irreps
 
--- the counts and names that a file has
+-- the format, counts and names that a file has; a cell and listed atoms ask for a tolerance
 pub record IsSound (f : File) : Type 0 where
-  pub irreps : length f.irreps ≤ 8
+  pub format : ((f.format ≡ 1) × (is_first_format f ≡ true)) ⊎ (f.format ≡ 2)
+  pub parent : is_parent f.hall f.generators ≡ true
+  pub few : list_all is_few (sections f) ≡ true
   pub blocks : list_all is_block f.irreps ≡ true
   pub names : have_new_names [] f.irreps ≡ true
-  pub atoms : length f.atoms ≤ 64
-  pub listed : length f.listed ≤ 4096
-  pub tolerance : f.tolerance ≡ None → f.listed ≡ []
+  pub matched : f.tolerance ≡ None → (f.cell ≡ None) × (f.listed ≡ [])
 
--- these lines are the file f
-pub record IsFileOf (said : List Line) (f : File) : Type 0 where
-  pub lines : said ≡ file_lines f
+-- the lines are the file f
+pub record IsFile (lines : List (List ℕ)) (f : File) : Type 0 where
+  pub said : SayLines 1 lines (file_lines f)
   pub sound : IsSound f
 
--- these lines can go on as a file
-abbrev pub IsStartOf : List Line → Type 0
-IsStartOf said = (more : List Line) × (f : File) × IsFileOf (said ++ more) f
-
--- what each line says, numbered from n on
-abbrev pub kinds : ℕ → List (List ℕ) → List Line
-kinds n [] = []
-kinds n (line ∷ lines) = kind_of n line ∷ kinds (n + 1) lines
-
-abbrev pub is_kept : Line → Bool
-is_kept Skip = false
-is_kept _ = true
-
--- what the lines say that aren't skipped
-abbrev pub said_by_lines : List (List ℕ) → List Line
-said_by_lines lines = filter is_kept (kinds 1 lines)
-
-abbrev pub IsFile : List (List ℕ) → File → Type 0
-IsFile lines f = IsFileOf (said_by_lines lines) f
-
-abbrev pub IsStart : List (List ℕ) → Type 0
-IsStart lines = IsStartOf (said_by_lines lines)
+-- what these lines say can go on as a file
+pub record IsStart (lines : List (List ℕ)) : Type 0 where
+  pub said : List Line
+  pub says : SayLines 1 lines said
+  pub more : List Line
+  pub file : File
+  pub whole : said ++ more ≡ file_lines file
+  pub sound : IsSound file
 
 -- The first n lines are a start, and either the first n + 1 are not, or there are n lines and they aren't a file.
 abbrev pub IsBadAfter : ℕ → List (List ℕ) → Type 0

@@ -4,10 +4,12 @@ pub mod Digits
 pub mod DivisorLaws
 pub mod Draft
 pub mod File
+pub mod FileLines
 pub mod FileValue
 pub mod FractionLaws
 pub mod Fractions
 pub mod LineKinds
+pub mod LineSpellings
 pub mod Lines
 pub mod LowestLaws
 pub mod Mark
@@ -17,6 +19,10 @@ pub mod NameView
 pub mod Numbers
 pub mod OperationSpellings
 pub mod Operations
+pub mod Ranges
+pub mod SectionSpellings
 pub mod Spellings
 pub mod Streams
 pub mod SumSpellings
+pub mod WordRanges
+pub mod WordSpellings

@@ -1,43 +1,90 @@
 // Reading a file line by line.
-ghost use Rattle.std.specs.Prelude.{◌≡◌, IfOk};
+ghost use Rattle.std.specs.Prelude.{◌≡◌, ◌<◌, IfOk, IfSome, Some};
 ghost use Rattle.iso_text.specs.File.{is_new, has_entries};
-ghost use Rattle.iso_text.specs.FileValue.{file_with_hall};
-ghost use Rattle.iso_text.specs.Draft.{draft, settled, on_head, on_hall, takes_block, on_irrep, on_k, takes_mat, on_mat, on_atom, on_tolerance, on_listed, on_section, next_of, begin, finished};
+ghost use Rattle.iso_text.specs.FileLines.{sections};
+ghost use Rattle.iso_text.specs.Draft.{draft, settled, on_head, on_hall, on_lattice, on_op, on_irrep, on_k, takes_mat, on_mat, on_vector, has_room, section_takes, section_of, with_line, on_section, next_of, begin, finished};
 
 use crate::NoMemory;
 use crate::document::Document;
 use crate::line_kinds::{IrrepLine, Line};
+use crate::list::TextList;
 use crate::name::Name;
 use crate::numbers::Frac;
-use crate::sections::{AtomText, IrrepText, MatList, MatText};
+use crate::sections::{IrrepText, MatText, OpLine, OpsText, VectorText};
 use crate::text::Text;
 use crate::word_lists::is_same;
 use std::alloc::Global;
 
-/// The most irrep blocks of a file.
-pub const MAX_IRREPS: usize = 8;
+/// A section behind the parent: the most items that it may have, whether it stands in files of
+/// format 2 alone, and whether it asks for a tolerance line.
+#[derive(Clone, Copy, Debug, PartialEq, Eq)]
+pub struct Section {
+    pub most: usize,
+    pub is_second: bool,
+    pub is_matched: bool,
+}
+
+/// The sections in their order: irrep blocks, atoms, the tolerance, the cell, listed atoms, amounts,
+/// axial vectors.
+#[rattlefmt::skip]
+pub const SECTIONS: [Section; 7] = [
+    Section {
+        most: 8,
+        is_second: false,
+        is_matched: false,
+    },
+    Section {
+        most: 64,
+        is_second: false,
+        is_matched: false,
+    },
+    Section {
+        most: 1,
+        is_second: false,
+        is_matched: false,
+    },
+    Section {
+        most: 1,
+        is_second: true,
+        is_matched: true,
+    },
+    Section {
+        most: 4096,
+        is_second: false,
+        is_matched: true,
+    },
+    Section {
+        most: 4096,
+        is_second: true,
+        is_matched: false,
+    },
+    Section {
+        most: 4096,
+        is_second: true,
+        is_matched: false,
+    },
+];
 
 /// The most `mat` lines of an irrep block.
 pub const MAX_MATS: usize = 96;
 
-/// The most `atom` lines of a file.
-pub const MAX_ATOMS: usize = 64;
-
-/// The most `listed` lines of a file.
-pub const MAX_LISTED: usize = 4096;
+/// The most `op` lines of a file.
+pub const MAX_OPS: usize = 5;
 
 /// Where a reader of lines stands.
 #[derive(Drop)]
 pub enum Stage {
     /// before the first line
     Begin,
-    /// behind `isodist 1`
+    /// behind the line of the format
     Headed,
-    /// behind the Hall symbol, no block is open
+    /// behind a `lattice` line of this number, or an `op` line behind it
+    Lattice(u32, OpsText),
+    /// behind the parent or a later section, no block is open
     Body,
     /// behind an `irrep` line
     Open(IrrepLine),
-    /// behind a `k` line or a `mat` line
+    /// behind a `k`, `mat` or `realvector` line
     Block(IrrepText),
     /// behind `end`
     Done,
@@ -50,13 +97,27 @@ pub struct Draft {
     pub document: Document,
 }
 
-// The document with the open block at its end, where a line of another section may follow.
+// A draft at a stage.
+fn at(stage: Stage, document: Document) -> Option<Draft>
+    ensures { result ≡ Some (draft stage document) }
+{
+    Some(Draft { stage, document })
+}
+
+// The document with the open parent or block in it, where a line of another section may follow.
 fn settled(stage: Stage, document: Document) -> Result<Option<Document>, NoMemory>
     ensures { IfOk result (λ d. d ≡ settled stage document) }
 {
     let mut document = document;
     match stage {
         Stage::Body => Ok(Some(document)),
+        Stage::Lattice(line, generators) => {
+            if generators.ops.as_slice().is_empty() {
+                return Ok(None);
+            }
+            document.set_generators(line, generators);
+            Ok(Some(document))
+        }
         Stage::Block(irrep) => {
             if irrep.mats.as_slice().is_empty() {
                 return Ok(None);
@@ -68,30 +129,62 @@ fn settled(stage: Stage, document: Document) -> Result<Option<Document>, NoMemor
     }
 }
 
-fn on_head(stage: Stage, document: Document) -> Option<Draft>
-    ensures { result ≡ on_head stage document }
+fn on_head(alloc: Global, format: u8, stage: Stage) -> Option<Draft>
+    ensures { result ≡ on_head format stage }
 {
     match stage {
-        Stage::Begin => Some(Draft {
-            stage: Stage::Headed,
-            document,
-        }),
+        Stage::Begin => at(Stage::Headed, Document::empty(alloc, format)),
         _ => None,
     }
 }
 
-fn on_hall(alloc: Global, number: u32, text: Text, stage: Stage) -> Option<Draft>
-    ensures { result ≡ on_hall number text stage }
+fn on_hall(number: u32, text: Text, stage: Stage, document: Document) -> Option<Draft>
+    ensures { result ≡ on_hall number text stage document }
+{
+    let mut document = document;
+    match stage {
+        Stage::Headed => {
+            document.set_hall(number, text);
+            at(Stage::Body, document)
+        }
+        _ => None,
+    }
+}
+
+fn on_lattice(
+    alloc: Global,
+    number: u32,
+    letter: u8,
+    stage: Stage,
+    document: Document,
+) -> Option<Draft>
+    ensures { result ≡ on_lattice number letter stage document }
 {
     match stage {
         Stage::Headed => {
-            let document = Document::with_hall(alloc, number, text);
-            Some(Draft {
-                stage: Stage::Body,
-                document,
-            })
+            if document.format() != 2 {
+                return None;
+            }
+            let ops = TextList::from_vec(Vec::new(alloc));
+            at(Stage::Lattice(number, OpsText { letter, ops }), document)
         }
         _ => None,
+    }
+}
+
+fn on_op(op: OpLine, stage: Stage, document: Document) -> Result<Option<Draft>, NoMemory>
+    ensures { IfOk result (λ next. next ≡ on_op op stage document) }
+{
+    match stage {
+        Stage::Lattice(line, generators) => {
+            let mut generators = generators;
+            if generators.ops.as_slice().len() >= MAX_OPS {
+                return Ok(None);
+            }
+            generators.ops.push(op)?;
+            Ok(at(Stage::Lattice(line, generators), document))
+        }
+        _ => Ok(None),
     }
 }
 
@@ -103,23 +196,11 @@ fn is_new(name: &Name, irreps: &[IrrepText]) -> bool
         .all(|irrep| !is_same(irrep.name.as_slice(), name.as_slice()))
 }
 
-fn takes_block(line: &IrrepLine, document: &Document) -> bool
-    ensures { result ≡ takes_block line.now document.now }
-{
-    document.atoms().is_empty()
-        && !document.has_tolerance()
-        && document.irreps().len() < MAX_IRREPS
-        && is_new(&line.name, document.irreps())
-}
-
 fn on_irrep(line: IrrepLine, document: Document) -> Option<Draft>
     ensures { result ≡ on_irrep line document }
 {
-    if takes_block(&line, &document) {
-        Some(Draft {
-            stage: Stage::Open(line),
-            document,
-        })
+    if is_new(&line.name, document.irreps()) {
+        at(Stage::Open(line), document)
     } else {
         None
     }
@@ -132,25 +213,25 @@ fn on_k(alloc: Global, k: [Frac; 3], stage: Stage, document: Document) -> Option
         Stage::Open(line) => *line,
         _ => return None,
     };
-    let mats = MatList::from_vec(Vec::new(alloc));
+    let mats = TextList::from_vec(Vec::new(alloc));
     let irrep = IrrepText {
         name: line.name,
         line: line.line,
         size: line.size,
         k,
         mats,
+        vector: None,
     };
-    Some(Draft {
-        stage: Stage::Block(irrep),
-        document,
-    })
+    at(Stage::Block(irrep), document)
 }
 
 fn takes_mat(mat: &MatText, irrep: &IrrepText) -> bool
     ensures { result ≡ takes_mat mat.now irrep.now }
 {
     let size = usize::from(irrep.size);
-    irrep.mats.as_slice().len() < MAX_MATS && mat.entries.as_slice().len() == size * size
+    irrep.vector.is_none()
+        && irrep.mats.as_slice().len() < MAX_MATS
+        && mat.entries.as_slice().len() == size * size
 }
 
 fn on_mat(mat: MatText, stage: Stage, document: Document) -> Result<Option<Draft>, NoMemory>
@@ -163,55 +244,84 @@ fn on_mat(mat: MatText, stage: Stage, document: Document) -> Result<Option<Draft
                 return Ok(None);
             }
             irrep.mats.push(mat)?;
-            Ok(Some(Draft {
-                stage: Stage::Block(irrep),
-                document,
-            }))
+            Ok(at(Stage::Block(irrep), document))
         }
         _ => Ok(None),
     }
 }
 
-fn on_atom(atom: AtomText, document: Document) -> Result<Option<Draft>, NoMemory>
-    ensures { IfOk result (λ next. next ≡ on_atom atom document) }
+fn on_vector(vector: VectorText, stage: Stage, document: Document) -> Option<Draft>
+    ensures { result ≡ on_vector vector stage document }
 {
-    let mut document = document;
-    if document.has_tolerance() || document.atoms().len() >= MAX_ATOMS {
-        return Ok(None);
+    match stage {
+        Stage::Block(irrep) => {
+            let mut irrep = irrep;
+            if document.format() != 2
+                || irrep.vector.is_some()
+                || irrep.mats.as_slice().is_empty()
+            {
+                return None;
+            }
+            irrep.vector = Some(vector);
+            at(Stage::Block(irrep), document)
+        }
+        _ => None,
     }
-    document.push_atom(atom)?;
-    Ok(Some(Draft {
-        stage: Stage::Body,
-        document,
-    }))
 }
 
-fn on_tolerance(tolerance: i64, document: Document) -> Option<Draft>
-    ensures { result ≡ on_tolerance tolerance document }
+// Whether this section is short of its most items, and those behind it are empty.
+fn has_room(document: &Document, section: usize) -> bool
+    requires { section < 7 }
+    ensures { result ≡ has_room section (sections document.now) }
 {
-    let mut document = document;
-    if document.has_tolerance() {
-        return None;
-    }
-    document.set_tolerance(tolerance);
-    Some(Draft {
-        stage: Stage::Body,
-        document,
-    })
+    let counts = document.counts();
+    counts[section] < SECTIONS[section].most && counts[section + 1..].iter().all(|n| *n == 0)
 }
 
-fn on_listed(atom: AtomText, document: Document) -> Result<Option<Draft>, NoMemory>
-    ensures { IfOk result (λ next. next ≡ on_listed atom document) }
+// Whether an item of this section may stand next.
+fn takes(document: &Document, section: usize) -> bool
+    requires { section < 7 }
+    ensures { result ≡ section_takes section document.now }
+{
+    let rule = SECTIONS[section];
+    has_room(document, section)
+        && (!rule.is_second || document.format() == 2)
+        && (!rule.is_matched || document.has_tolerance())
+}
+
+// The number of the section that a line begins or goes on with.
+fn section_of(line: &Line) -> Option<usize>
+    ensures value { result ≡ section_of line.now }
+    ensures below { IfSome result (λ n. n < 7) }
+{
+    match line {
+        Line::Irrep(_) => Some(0),
+        Line::Atom(_) => Some(1),
+        Line::Tolerance(_) => Some(2),
+        Line::Cell(_) => Some(3),
+        Line::Listed(_) => Some(4),
+        Line::Value(_) => Some(5),
+        Line::Axial(_) => Some(6),
+        _ => None,
+    }
+}
+
+// The draft with an item of a section.
+fn with_line(line: &Line, document: Document) -> Result<Option<Draft>, NoMemory>
+    ensures { IfOk result (λ next. next ≡ with_line line.now document) }
 {
     let mut document = document;
-    if !document.has_tolerance() || document.listed().len() >= MAX_LISTED {
-        return Ok(None);
+    match line {
+        Line::Irrep(irrep) => return Ok(on_irrep(*irrep, document)),
+        Line::Atom(atom) => document.push_atom(*atom)?,
+        Line::Tolerance(tolerance) => document.set_tolerance(*tolerance),
+        Line::Cell(cell) => document.set_cell(*cell),
+        Line::Listed(atom) => document.push_listed(*atom)?,
+        Line::Value(value) => document.push_value(*value)?,
+        Line::Axial(axial) => document.push_axial(*axial)?,
+        _ => return Ok(None),
     }
-    document.push_listed(atom)?;
-    Ok(Some(Draft {
-        stage: Stage::Body,
-        document,
-    }))
+    Ok(at(Stage::Body, document))
 }
 
 // The draft with a line that begins or goes on with a section, or ends the file.
@@ -219,15 +329,17 @@ fn on_section(line: &Line, document: Document) -> Result<Option<Draft>, NoMemory
     ensures { IfOk result (λ next. next ≡ on_section line.now document) }
 {
     match line {
-        Line::Irrep(irrep) => Ok(on_irrep(*irrep, document)),
-        Line::Atom(atom) => on_atom(*atom, document),
-        Line::Tolerance(tolerance) => Ok(on_tolerance(*tolerance, document)),
-        Line::Listed(atom) => on_listed(*atom, document),
-        Line::End => Ok(Some(Draft {
-            stage: Stage::Done,
-            document,
-        })),
-        _ => Ok(None),
+        Line::End => Ok(at(Stage::Done, document)),
+        _ => match section_of(line) {
+            None => Ok(None),
+            Some(section) => {
+                if takes(&document, section) {
+                    with_line(line, document)
+                } else {
+                    Ok(None)
+                }
+            }
+        },
     }
 }
 
@@ -235,32 +347,21 @@ fn on_section(line: &Line, document: Document) -> Result<Option<Draft>, NoMemory
 pub fn next(alloc: Global, draft: Draft, line: Line) -> Result<Option<Draft>, NoMemory>
     ensures { IfOk result (λ next. next ≡ next_of draft line) }
 {
+    let Draft { stage, document } = draft;
     match line {
-        Line::Skip => Ok(Some(draft)),
+        Line::Skip => Ok(at(stage, document)),
         Line::Bad => Ok(None),
-        Line::Head => {
-            let Draft { stage, document } = draft;
-            Ok(on_head(stage, document))
-        }
-        Line::Hall(number, text) => {
-            let Draft { stage, document: _ } = draft;
-            Ok(on_hall(alloc, number, text, stage))
-        }
-        Line::K(k) => {
-            let Draft { stage, document } = draft;
-            Ok(on_k(alloc, k, stage, document))
-        }
-        Line::Mat(mat) => {
-            let Draft { stage, document } = draft;
-            on_mat(mat, stage, document)
-        }
-        other => {
-            let Draft { stage, document } = draft;
-            match settled(stage, document)? {
-                None => Ok(None),
-                Some(document) => on_section(&other, document),
-            }
-        }
+        Line::Head(format) => Ok(on_head(alloc, format, stage)),
+        Line::Hall(number, text) => Ok(on_hall(number, text, stage, document)),
+        Line::Lattice(number, letter) => Ok(on_lattice(alloc, number, letter, stage, document)),
+        Line::Op(op) => on_op(op, stage, document),
+        Line::K(k) => Ok(on_k(alloc, k, stage, document)),
+        Line::Mat(mat) => on_mat(mat, stage, document),
+        Line::RealVector(vector) => Ok(on_vector(vector, stage, document)),
+        other => match settled(stage, document)? {
+            None => Ok(None),
+            Some(document) => on_section(&other, document),
+        },
     }
 }
 
@@ -270,7 +371,7 @@ pub fn begin(alloc: Global) -> Draft
 {
     Draft {
         stage: Stage::Begin,
-        document: Document::with_hall(alloc, 0, Text::new(alloc)),
+        document: Document::empty(alloc, 1),
     }
 }
 

@@ -14,11 +14,12 @@ mod draft;
 mod errors;
 mod fractions;
 mod line_kinds;
+mod line_words;
 mod lines;
+mod list;
 mod memory;
 mod memory_sink;
 mod name;
-mod number_lists;
 mod number_words;
 mod numbers;
 mod operation_words;
@@ -33,13 +34,16 @@ mod word_lists;
 pub use document::Document;
 pub use errors::{Failed, NoMemory, TakeError, WriteFault};
 pub use fractions::UNITS_PER_EDGE;
+pub use list::{Stab, TextList};
 pub use memory::{CalmSource, MemSource};
 pub use memory_sink::MemSink;
 pub use name::Name;
-pub use number_lists::{NumList, NumText};
-pub use numbers::{Frac, OpText, Term, Unit};
+pub use numbers::{Frac, NumList, NumText, OpText, Term, Unit};
 pub use read_error::ReadError;
-pub use sections::{AtomList, AtomText, IrrepList, IrrepText, MatList, MatText};
+pub use sections::{
+    AtomList, AtomText, AxialList, AxialText, CellText, IrrepList, IrrepText, MatList, MatText,
+    OpLine, OpLines, OpsText, ValueList, ValueText, VectorText,
+};
 pub use sink::{Sink, put_all};
 pub use source::{MAX_BYTES, Source, take_all};
 pub use text::Text;

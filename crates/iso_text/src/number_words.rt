@@ -8,8 +8,7 @@ use crate::NoMemory;
 use crate::cuts::{Mark, first_cut, split_at_mark};
 use crate::digits::{ratio, whole};
 use crate::fractions::signed_small;
-use crate::number_lists::NumText;
-use crate::numbers::{Term, Unit};
+use crate::numbers::{NumText, Term, Unit};
 use std::alloc::Global;
 
 /// The most terms of a number.

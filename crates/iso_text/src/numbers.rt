@@ -1,4 +1,5 @@
 // Numbers as a file's words give them.
+use crate::list::TextList;
 
 /// A fraction `num / den`, the denominator above 0.
 #[derive(Clone, Copy, Debug, PartialEq, Eq, Default, Hash)]
@@ -32,6 +33,12 @@ pub struct Term {
     pub den: u8,
     pub unit: Unit,
 }
+
+/// A number as a file writes it: 1 to 16 terms, seen as the list of its terms.
+pub type NumText = TextList<Term>;
+
+/// Numbers, seen as their list; on a `mat` line the entries of a matrix, row by row.
+pub type NumList = TextList<NumText>;
 
 /// An operation as a file writes it: the rotation row by row, and the translation in twelfths of a
 /// cell edge, not reduced into a cell. Entries are from -3 to 3, shifts from -1440 to 1440.

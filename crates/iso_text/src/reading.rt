@@ -8,7 +8,7 @@ ghost use Rattle.iso_text.specs.Lines.{lines_of};
 
 use crate::document::Document;
 use crate::draft::{Draft, begin, finished, next};
-use crate::line_kinds::read_line;
+use crate::line_words::read_line;
 use crate::lines::first_line;
 use crate::read_error::ReadError;
 use crate::source::MAX_BYTES;

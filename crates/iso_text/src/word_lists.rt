@@ -1,17 +1,30 @@
 // Texts of so many words.
-ghost use Rattle.std.specs.Prelude.{◌≡◌};
+ghost use Rattle.std.specs.Prelude.{◌≡◌, IfSome};
 ghost use Rattle.std.specs.Option.{option_copied, option_map};
 ghost use Rattle.std.specs.Str.{bytes_eq};
 ghost use Rattle.iso_text.specs.Cuts.{words_of};
-ghost use Rattle.iso_text.specs.LineKinds.{four, one, three, two};
+ghost use Rattle.iso_text.specs.Fractions.{k_fraction_of, place_of};
+ghost use Rattle.iso_text.specs.LineKinds.{is_none_left, one, two, three_of, site_of};
 
 use crate::cuts::first_word;
+use crate::fractions::{k_fraction, place};
+use crate::numbers::Frac;
 
 /// Whether two texts are the same.
 pub fn is_same(word: &[u8], text: &[u8]) -> bool
     ensures { result ≡ bytes_eq word.now text.now }
 {
     word == text
+}
+
+/// Whether a text has no word.
+pub fn is_empty(text: &[u8]) -> bool
+    ensures { result ≡ is_none_left (words_of text.now) }
+{
+    match first_word(text) {
+        None => true,
+        Some(_) => false,
+    }
 }
 
 /// The only word of a text that has one.
@@ -34,20 +47,37 @@ pub fn two_words(text: &[u8]) -> Option<(&[u8], &[u8])>
     Some((a, b))
 }
 
-/// The words of a text that has three.
-pub fn three_words(text: &[u8]) -> Option<(&[u8], &[u8], &[u8])>
-    ensures { option_map (λ w. (w.0.now, w.1.now, w.2.now)) result ≡ three (words_of text.now) }
+/// Three fractions, and what stands behind them.
+pub fn three_fractions(text: &[u8]) -> Option<([Frac; 3], &[u8])>
+    ensures { option_map (λ r. (r.0, words_of r.1.now)) result ≡ three_of k_fraction_of (words_of text.now) }
 {
     let (a, rest) = first_word(text)?;
-    let (b, c) = two_words(rest)?;
-    Some((a, b, c))
+    let (b, rest) = first_word(rest)?;
+    let (c, rest) = first_word(rest)?;
+    let a = k_fraction(a)?;
+    let b = k_fraction(b)?;
+    let c = k_fraction(c)?;
+    Some(([a, b, c], rest))
 }
 
-/// The words of a text that has four.
-pub fn four_words(text: &[u8]) -> Option<(&[u8], &[u8], &[u8], &[u8])>
-    ensures { option_map (λ w. (w.0.now, w.1.now, w.2.now, w.3.now)) result ≡ four (words_of text.now) }
+/// Three coordinates, and what stands behind them.
+pub fn three_places(text: &[u8]) -> Option<([i64; 3], &[u8])>
+    ensures { option_map (λ r. (r.0, words_of r.1.now)) result ≡ three_of place_of (words_of text.now) }
 {
-    let (a, rest) = first_word(text)?;
-    let (b, c, d) = three_words(rest)?;
-    Some((a, b, c, d))
+    let (x, rest) = first_word(text)?;
+    let (y, rest) = first_word(rest)?;
+    let (z, rest) = first_word(rest)?;
+    let x = place(x)?;
+    let y = place(y)?;
+    let z = place(z)?;
+    Some(([x, y, z], rest))
+}
+
+/// A word, three coordinates, and what stands behind them.
+pub fn site(text: &[u8]) -> Option<(&[u8], [i64; 3], &[u8])>
+    ensures { option_map (λ r. (r.0.now, r.1, words_of r.2.now)) result ≡ site_of (words_of text.now) }
+{
+    let (label, rest) = first_word(text)?;
+    let (place, rest) = three_places(rest)?;
+    Some((label, place, rest))
 }
