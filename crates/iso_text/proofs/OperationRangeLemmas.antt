@@ -1,7 +1,7 @@
 -- What the words of operations spell is within the ranges of the format.
 --
 -- operation-in_range: entries from -3 to 3, shifts of at most 120 cell edges
-use Rattle.std.proofs.Common.{◌≡◌, ℕ, ℤ, pos, ◌-◌, ◌*◌, ◌/◌, ◌≤◌, Bool, List, [], ◌∷◌, Option, Some, None, refl, sym, subst, inl, inr, arith}
+use Rattle.std.proofs.Common.{◌≡◌, ℕ, ℤ, pos, ◌*◌, ◌/◌, ◌≤◌, Bool, List, [], ◌∷◌, Option, Some, None, refl, sym, subst, inl, inr, arith}
 use Rattle.std.specs.Prelude.{unwrap_or, IfSome}
 use Rattle.std.specs.List.{All, filter_map, cons_option}
 use Rattle.std.specs.Option.{option_to_list}
@@ -82,7 +82,7 @@ of_shift (Y a) near = tt
 of_shift (Z a) near = tt
 of_shift (Shift a) near = near
 
-AreThree-of : {V : Type 0} (P : V → Type 0) (a b c : V) → P a → P b → P c → AreThree P (a ∷ b ∷ c ∷ [])
+pub AreThree-of : {V : Type 0} (P : V → Type 0) (a b c : V) → P a → P b → P c → AreThree P (a ∷ b ∷ c ∷ [])
 AreThree-of P a b c x y z = record { count = refl; each = All-cons P a (b ∷ c ∷ []) x (All-cons P b (c ∷ []) y (All-cons P c [] z (All-nil P))) }
 
 row_parts : (text : List ℕ) (row : Row) → (s : SpellsRow text row) → All IsPart s.parts
