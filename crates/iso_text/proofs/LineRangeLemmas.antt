@@ -2,7 +2,7 @@
 --
 -- IsLine line: what the line says is within its ranges
 -- said_lines: what lines say
-use Rattle.std.proofs.Common.{◌≡◌, ◌⊎◌, ℕ, ℤ, pos, ◌+◌, ◌≤◌, ◌≤ℤ◌, true, List, [], ◌∷◌, sym, subst, inl, inr, arith}
+use Rattle.std.proofs.Common.{◌≡◌, ◌⊎◌, ℕ, ℤ, pos, ◌+◌, ◌<◌, ◌≤◌, ◌≤ℤ◌, true, List, [], ◌∷◌, length, sym, subst, inl, inr, arith}
 use Rattle.std.specs.List.{All}
 use Rattle.std.proofs.lemmas.List.Elements.{All-nil, All-cons}
 use Rattle.iso_text.proofs.OperationRangeLemmas.{operation-in_range, AreThree-of}
@@ -27,7 +27,7 @@ abbrev pub IsLine : Line → Type 0
 IsLine Skip = Unit {0}
 IsLine Bad = Unit {0}
 IsLine (Head format) = (format ≡ 1) ⊎ (format ≡ 2)
-IsLine (Hall n symbol) = Unit {0}
+IsLine (Hall n symbol) = 0 < length symbol
 IsLine (Lattice n letter) = is_letter letter ≡ true
 IsLine (Op o) = IsOperation o.op
 IsLine (Irrep i) = (is_name i.name ≡ true) × (1 ≤ i.size) × (i.size ≤ 6)
@@ -71,7 +71,7 @@ words-in_range : (n : ℕ) (words : List (List ℕ)) (line : Line) → Says n wo
 words-in_range n words Skip s = tt
 words-in_range n words Bad s = tt
 words-in_range n words (Head format) s = format_is words format s
-words-in_range n words (Hall line symbol) s = tt
+words-in_range n words (Hall line symbol) s = absurd s
 words-in_range n words (Lattice line letter) s = s.1.known
 words-in_range n words (Op o) s = operation-in_range s.1 o.op s.3
 words-in_range n words (Irrep i) s = (s.1.name, s.1.some, s.1.few)
@@ -89,7 +89,7 @@ words-in_range n words (Axial v) s = axial-in_range words v s.1
 words-in_range n words End s = tt
 
 line-in_range : (n : ℕ) (text : List ℕ) (line : Line) → SpellsLine n text line → IsLine line
-line-in_range n text (Hall line symbol) s = tt
+line-in_range n text (Hall line symbol) s = s.1.some
 line-in_range n text line s = words-in_range n s.0 line s.2
 
 -- what lines say is within their ranges

@@ -1,8 +1,9 @@
 -- What a file says is within the ranges of the format.
 --
 -- file-in_range: all that a file says
-use Rattle.std.proofs.Common.{◌≡◌, ℕ, ◌*◌, ◌≤◌, ◌==◌, true, ◌&&◌, nat_le, List, [], ◌∷◌, ◌++◌, map, length, Option, Some, None, arith}
-use Rattle.std.specs.Prelude.{IfSome}
+-- read-in_range: all that a file says, where a reader answers with one
+use Rattle.std.proofs.Common.{◌≡◌, ℕ, ◌*◌, ◌<◌, ◌≤◌, ◌==◌, true, ◌&&◌, nat_le, List, [], ◌∷◌, ◌++◌, map, length, Option, Some, None, Result, Ok, Err, IfOk, arith}
+use Rattle.std.specs.Prelude.{IfSome, IfNone}
 use Rattle.std.specs.List.{All, flat_map, list_all}
 use Rattle.std.specs.Option.{option_to_list}
 use Rattle.std.proofs.lemmas.Bool.Decides.{nat_tests}
@@ -16,7 +17,7 @@ use Rattle.iso_text.specs.FileValue.{File}
 use Rattle.iso_text.specs.Ranges.{IsMat, IsVector, IsBlock, AreGenerators, IsInRange}
 use Rattle.iso_text.specs.WordRanges.{AreAtMost}
 use Rattle.iso_text.specs.declared.line_kinds.Line.{Line}
-use Rattle.iso_text.specs.declared.line_kinds.Line.TheVariants.{Head, Lattice, Op, Irrep, K, Mat, RealVector, Atom, Tolerance, Cell, Listed, Value, Axial, End}
+use Rattle.iso_text.specs.declared.line_kinds.Line.TheVariants.{Head, Hall, Lattice, Op, Irrep, K, Mat, RealVector, Atom, Tolerance, Cell, Listed, Value, Axial, End}
 use Rattle.iso_text.specs.declared.sections.IrrepText.{IrrepText}
 use Rattle.iso_text.specs.declared.sections.MatText.{MatText}
 use Rattle.iso_text.specs.declared.sections.OpsText.{OpsText}
@@ -60,8 +61,7 @@ is_this a b e = grind (arith, nat_tests)
 sections_of : (ss : List Section) → All IsLine (flat_map section_lines ss) → list_all is_few ss ≡ true → AreSections ss
 sections_of [] all few = tt
 sections_of (s ∷ ss) all few =
-    let parts = apart (is_few s) (list_all is_few ss) few in
-    (
+    let parts = apart (is_few s) (list_all is_few ss) few in (
       (All-front IsLine (section_lines s) (flat_map section_lines ss) all, le_true (length s.items) s.most parts.0),
       sections_of ss (All-behind IsLine (section_lines s) (flat_map section_lines ss) all) parts.1,
     )
@@ -107,6 +107,10 @@ blocks_of (i ∷ irreps) all sound =
     All-cons IsBlock i irreps (block_of i (All-front IsLine (block_lines i) more all) parts.0) (blocks_of irreps (All-behind IsLine (block_lines i) more all) parts.1)
 
 -- the parent
+symbol_of : (n : ℕ) (hall : List ℕ) (g : Option OpsText) → All IsLine (parent_lines n hall g) → IfNone g (0 < length hall)
+symbol_of n hall None all = All-head IsLine (Hall n hall) [] all
+symbol_of n hall (Some g) all = tt
+
 parent_of : (n : ℕ) (hall : List ℕ) (g : Option OpsText) → All IsLine (parent_lines n hall g) → is_parent hall g ≡ true → IfSome g AreGenerators
 parent_of n hall None all sound = tt
 parent_of n hall (Some g) all sound =
@@ -134,6 +138,7 @@ file-in_range lines f h =
     let s = sections_of (sections f) (All-behind IsLine parent behind rest) h.sound.few in
     record {
       format = All-head IsLine (Head f.format) (parent ++ behind) body;
+      symbol = symbol_of f.hall_line f.hall f.generators (All-front IsLine parent behind rest);
       generators = parent_of f.hall_line f.hall f.generators (All-front IsLine parent behind rest) h.sound.parent;
       irreps = record { few = omega (arith, s.0.1, length-map f.irreps block_lines); each = blocks_of f.irreps s.0.0 h.sound.blocks };
       atoms = items_of 64 (λ a. Atom a) f.atoms s.1.0;
@@ -143,3 +148,8 @@ file-in_range lines f h =
       values = items_of 4096 (λ v. Value v) f.values s.1.1.1.1.1.0;
       axials = items_of 4096 (λ v. Axial v) f.axials s.1.1.1.1.1.1.0;
     }
+
+-- the same of a reader's answer
+pub read-in_range : {E : Type 0} (lines : List (List ℕ)) (r : Result File E) → IfOk r (λ f. IsFile lines f) → IfOk r (λ f. IsInRange f)
+read-in_range lines (Ok f) h = file-in_range lines f h
+read-in_range lines (Err e) h = tt

@@ -21,6 +21,7 @@ pub mod NumberedGroupLaws
 pub mod Numbers
 pub mod OperationSpellings
 pub mod Operations
+pub mod RangeLaws
 pub mod Ranges
 pub mod SectionSpellings
 pub mod Spellings
