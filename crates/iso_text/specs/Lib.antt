@@ -19,6 +19,7 @@ pub mod NameView
 pub mod Numbers
 pub mod OperationSpellings
 pub mod Operations
+pub mod RangeLaws
 pub mod Ranges
 pub mod SectionSpellings
 pub mod Spellings

@@ -3,7 +3,7 @@
 -- IsMat size m, IsVector v, IsBlock i: a `mat` line, a `realvector` line, an irrep block
 -- IsSite label place, IsCell c, AreGenerators g: an atom; the cell of the listed places; the operations of a parent
 -- IsInRange f: all that a file says
-use Rattle.std.specs.Prelude.{◌≡◌, ◌⊎◌, ℕ, ◌≤◌, ◌*◌, ℤ, pos, ◌≤ℤ◌, true, List, length, IfSome}
+use Rattle.std.specs.Prelude.{◌≡◌, ◌⊎◌, ℕ, ◌≤◌, ◌*◌, ◌<◌, ℤ, pos, ◌≤ℤ◌, true, List, length, IfSome, IfNone}
 use Rattle.std.specs.List.{All}
 use Rattle.iso_text.specs.FileValue.{File}
 use Rattle.iso_text.specs.Name.{is_name}
@@ -61,6 +61,7 @@ pub record AreGenerators (g : OpsText) : Type 0 where
 -- all that a file says
 pub record IsInRange (f : File) : Type 0 where
   pub format : (f.format ≡ 1) ⊎ (f.format ≡ 2)
+  pub symbol : IfNone f.generators (0 < length f.hall)
   pub generators : IfSome f.generators AreGenerators
   pub irreps : AreAtMost 8 IsBlock f.irreps
   pub atoms : AreAtMost 64 (λ (a : AtomText). IsSite a.label a.place) f.atoms

@@ -2,7 +2,7 @@
 --
 -- IsWithin n x: x is at most n in absolute value
 -- IsTerm t, IsNumber ts, AreNumbers n ns: a term; 1 to 16 of them; so many numbers
--- IsFraction v: a fraction of a wave vector or a cell; IsPlace x: a coordinate
+-- IsDenominator d, IsFraction v: a fraction of a wave vector or a cell, and its denominator; IsPlace x: a coordinate
 -- IsOperation op: entries from -3 to 3, shifts of at most 120 cell edges
 -- AreThree P vs, AreAtMost n P vs: three values, at most n values, each of them so
 use Rattle.std.specs.Prelude.{◌≡◌, ℕ, ◌<◌, ◌≤◌, ◌%◌, ℤ, pos, ◌+ℤ◌, ◌≤ℤ◌, List, length}
@@ -13,7 +13,7 @@ use Rattle.iso_text.specs.declared.numbers.Frac.{Frac}
 use Rattle.iso_text.specs.declared.numbers.OpText.{OpText}
 use Rattle.iso_text.specs.declared.numbers.Term.{Term}
 use Rattle.iso_text.specs.declared.numbers.Unit.{Unit as TermUnit}
-use Rattle.iso_text.specs.declared.numbers.Unit.TheVariants.{One, Z, I, R2, R3, R6}
+use Rattle.iso_text.specs.declared.numbers.Unit.TheVariants.{Z}
 
 -- from -n to n
 abbrev pub IsWithin : ℕ → ℤ → Type 0
@@ -41,6 +41,12 @@ pub record IsNumber (ts : List Term) : Type 0 where
 pub record AreNumbers (n : ℕ) (numbers : List (List Term)) : Type 0 where
   pub count : length numbers ≡ n
   pub each : All IsNumber numbers
+
+-- a denominator of a wave vector: 1, 2, 3, 4 or 6
+pub record IsDenominator (d : ℕ) : Type 0 where
+  pub positive : 0 < d
+  pub few : d ≤ 6
+  pub divides : 12 % d ≡ 0
 
 -- in lowest terms, over 1, 2, 3, 4 or 6, the numerator at most 24 in absolute value
 pub record IsFraction (v : Frac) : Type 0 where

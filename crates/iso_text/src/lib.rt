@@ -23,6 +23,7 @@ mod name;
 mod number_words;
 mod numbers;
 mod operation_words;
+mod range_laws;
 mod read_error;
 mod reading;
 mod sections;
@@ -39,6 +40,7 @@ pub use memory::{CalmSource, MemSource};
 pub use memory_sink::MemSink;
 pub use name::Name;
 pub use numbers::{Frac, NumList, NumText, OpText, Term, Unit};
+pub use range_laws::law_of_ranges;
 pub use read_error::ReadError;
 pub use sections::{
     AtomList, AtomText, AxialList, AxialText, CellText, IrrepList, IrrepText, MatList, MatText,

@@ -5,6 +5,7 @@ ghost use Rattle.iso_text.specs.File.{IsFile, HasCause};
 ghost use Rattle.iso_text.specs.FileValue.{File};
 ghost use Rattle.iso_text.specs.LineKinds.{kind_of};
 ghost use Rattle.iso_text.specs.Lines.{lines_of};
+ghost use Rattle.iso_text.specs.Ranges.{IsInRange};
 
 use crate::document::Document;
 use crate::draft::{Draft, begin, finished, next};
@@ -62,6 +63,8 @@ impl Document {
         requires { length bytes.now ≤ MAX_BYTES }
         // What is read is a file, with these values.
         ensures file { IfOk result (λ document. IsFile (lines_of bytes.now) document) }
+        // All that it says is within the ranges of the format.
+        ensures ranges { IfOk result (λ document. IsInRange document) }
         // The number of the first line that can't go on as a file.
         ensures cause { IfErr result (λ e. HasCause (lines_of bytes.now) e) }
         // A file is read, and has these values alone.
