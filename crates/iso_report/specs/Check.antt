@@ -11,7 +11,7 @@ use Rattle.space_ops.specs.Lattice.{centrings_of}
 use Rattle.space_ops.specs.OpText.{text_of}
 use Rattle.super_group.specs.Supercell.{multiplier}
 use Rattle.super_group.specs.Quotient.{SupercellGroup, order_of}
-use Rattle.iso_report.specs.SignFile.{line}
+use Rattle.iso_text.specs.Lines.{line}
 
 abbrev pub lattice_letter : Lattice → List ℕ
 lattice_letter P = codes "P"
