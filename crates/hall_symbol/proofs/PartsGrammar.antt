@@ -13,7 +13,7 @@ use Rattle.hall_symbol.specs.declared.rotation.CellAxis.TheVariants.{X, Y, Z}
 use Rattle.hall_symbol.specs.declared.rotation.Order.{Order}
 use Rattle.hall_symbol.specs.declared.part.Part.{Part}
 use Rattle.hall_symbol.specs.Spelling.{Spelling, IsSpelling, text_of, part_of, sign_text, order_byte, digit_text, axis_byte, axis_text, is_letter, letters_shift}
-use Rattle.hall_symbol.specs.Words.{is_blank}
+use Rattle.iso_text.specs.Cuts.{is_blank}
 use Rattle.hall_symbol.specs.PartReading.{sign_at, order_at, digit_at, axis_at, letters_of, one_digit, part_from, part_in}
 use Rattle.hall_symbol.specs.declared.rotation.Order.TheVariants as order
 use Rattle.hall_symbol.proofs.Cases.{and-first, and-second, bind-some, chosen, option-cases, some-value}

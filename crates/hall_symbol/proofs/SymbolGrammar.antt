@@ -14,7 +14,7 @@ use Rattle.hall_symbol.specs.Grammar.{head_text, IsOriginShift, IsHallSymbol}
 use Rattle.hall_symbol.specs.Operations.{op_at_origin, inversion_of}
 use Rattle.hall_symbol.specs.Spelling.{Spelling, IsSpelling, text_of, part_of}
 use Rattle.hall_symbol.specs.Generators.{generators_of}
-use Rattle.hall_symbol.specs.Words.{trimmed}
+use Rattle.iso_text.specs.Lines.{trimmed}
 use Rattle.hall_symbol.specs.WordReading.{words}
 use Rattle.hall_symbol.specs.SymbolReading.{head_at, parts_at, symbol_at, symbol_of}
 use Rattle.hall_symbol.specs.ShiftReading.{shift_at}

@@ -5,9 +5,11 @@
 use Rattle.std.proofs.Common.{◌≡◌, ℕ, Bool, true, false, List, [], ◌∷◌, ◌++◌, ◌⊎◌, ◌==◌, ◌||◌, not, refl, sym, ap, ◌∙◌, inl, inr, subst, append-nil, cond}
 use Rattle.std.proofs.lemmas.Bool.{cases_Bool, eqb-true}
 use Rattle.std.specs.List.{list_all}
-use Rattle.hall_symbol.specs.Words.{is_blank, can_follow, after_blanks, before_blanks, trimmed, AreWords, opening}
+use Rattle.iso_text.specs.Cuts.{is_blank}
+use Rattle.iso_text.specs.Lines.{unindented, without_trail, trimmed}
+use Rattle.hall_symbol.specs.Words.{can_follow, AreWords, opening}
 use Rattle.hall_symbol.specs.WordReading.{words, ends_word, begins_word, with_front}
-use Rattle.hall_symbol.proofs.WordsLemmas.{words-after_blanks, words-stop, words-go, goes_on}
+use Rattle.hall_symbol.proofs.WordsLemmas.{words-unindented, words-stop, words-go, goes_on}
 use Rattle.hall_symbol.proofs.Cases.{and-first, and-second, not_or, not_true, or-false, or-true, or_false, or_true, true-false}
 
 -- ---- the words of a trimmed text
@@ -21,13 +23,13 @@ words-blanks [] text h = refl
 words-blanks (c ∷ cs) text h =
     words-blank c (cs ++ text) (and-first (is_blank c) (list_all is_blank cs) h) ∙ words-blanks cs text (and-second (is_blank c) (list_all is_blank cs) h)
 
-can_follow-before_blanks : (text : List ℕ) → can_follow (before_blanks text) ≡ can_follow text
-can_follow-before_blanks [] = refl
-can_follow-before_blanks (c ∷ cs) = elim (cases_Bool (list_all is_blank (c ∷ cs))) [
+can_follow-without_trail : (text : List ℕ) → can_follow (without_trail text) ≡ can_follow text
+can_follow-without_trail [] = refl
+can_follow-without_trail (c ∷ cs) = elim (cases_Bool (list_all is_blank (c ∷ cs))) [
   | inl blanks ↦
       let first : is_blank c ≡ true = and-first (is_blank c) (list_all is_blank cs) blanks in
-      ap (λ t. can_follow (cond t [] (c ∷ before_blanks cs))) blanks ∙ sym (ap (λ t. t || c == 41) first)
-  | inr others ↦ ap (λ t. can_follow (cond t [] (c ∷ before_blanks cs))) others
+      ap (λ t. can_follow (cond t [] (c ∷ without_trail cs))) blanks ∙ sym (ap (λ t. t || c == 41) first)
+  | inr others ↦ ap (λ t. can_follow (cond t [] (c ∷ without_trail cs))) others
 ]
 
 words-same : (c : ℕ) (cs ds : List ℕ) → can_follow ds ≡ can_follow cs → words ds ≡ words cs → words (c ∷ ds) ≡ words (c ∷ cs)
@@ -36,17 +38,17 @@ words-same c cs ds e f =
     ap (λ v. cond (is_blank c) v (cond (ends_word (c ∷ ds)) ((c ∷ []) ∷ v) (with_front (c ∷ []) v))) f
     ∙ ap (λ t. cond (is_blank c) (words cs) (cond (c == 40 || t) ((c ∷ []) ∷ words cs) (with_front (c ∷ []) (words cs)))) e
 
-words-before_blanks : (text : List ℕ) → words (before_blanks text) ≡ words text
-words-before_blanks [] = refl
-words-before_blanks (c ∷ cs) = elim (cases_Bool (list_all is_blank (c ∷ cs))) [
+words-without_trail : (text : List ℕ) → words (without_trail text) ≡ words text
+words-without_trail [] = refl
+words-without_trail (c ∷ cs) = elim (cases_Bool (list_all is_blank (c ∷ cs))) [
   | inl blanks ↦
-      ap (λ t. words (cond t [] (c ∷ before_blanks cs))) blanks ∙ sym (words-blanks (c ∷ cs) [] blanks) ∙ ap words (append-nil (c ∷ cs))
+      ap (λ t. words (cond t [] (c ∷ without_trail cs))) blanks ∙ sym (words-blanks (c ∷ cs) [] blanks) ∙ ap words (append-nil (c ∷ cs))
   | inr others ↦
-      ap (λ t. words (cond t [] (c ∷ before_blanks cs))) others ∙ words-same c cs (before_blanks cs) (can_follow-before_blanks cs) (words-before_blanks cs)
+      ap (λ t. words (cond t [] (c ∷ without_trail cs))) others ∙ words-same c cs (without_trail cs) (can_follow-without_trail cs) (words-without_trail cs)
 ]
 
 pub words-trimmed : (text : List ℕ) → words (trimmed text) ≡ words text
-words-trimmed text = words-before_blanks (after_blanks text) ∙ words-after_blanks text
+words-trimmed text = words-without_trail (unindented text) ∙ words-unindented text
 
 -- ---- the words of the grammar
 

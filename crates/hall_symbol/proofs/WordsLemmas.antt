@@ -3,26 +3,27 @@ use Rattle.std.proofs.Common.{◌≡◌, ◌<◌, ◌+◌, ◌-◌, ℕ, Bool, t
 use Rattle.std.proofs.lemmas.Bool.{cases_Bool}
 use Rattle.std.proofs.lemmas.List.{drop_more, take_more, take_all, length-drop}
 use Rattle.std.specs.List.{list_all}
-use Rattle.hall_symbol.specs.Words.{is_blank, after_blanks, before_blanks}
+use Rattle.iso_text.specs.Cuts.{is_blank}
+use Rattle.iso_text.specs.Lines.{unindented, without_trail}
 use Rattle.hall_symbol.specs.WordReading.{words, ends_word, begins_word, with_front}
 
 -- ---- blanks at the ends
 
-after_blanks-other : (c : ℕ) (cs : List ℕ) → is_blank c ≡ false → after_blanks (c ∷ cs) ≡ c ∷ cs
-after_blanks-other c cs other = rw other refl
+unindented-other : (c : ℕ) (cs : List ℕ) → is_blank c ≡ false → unindented (c ∷ cs) ≡ c ∷ cs
+unindented-other c cs other = rw other refl
 
-pub words-after_blanks : (text : List ℕ) → words (after_blanks text) ≡ words text
+pub words-unindented : (text : List ℕ) → words (unindented text) ≡ words text
 unfolding words
-words-after_blanks [] = refl
-words-after_blanks (c ∷ cs) = elim (cases_Bool (is_blank c)) [
-  | inl blank ↦ rw blank (words-after_blanks cs)
-  | inr other ↦ ap words (after_blanks-other c cs other)
+words-unindented [] = refl
+words-unindented (c ∷ cs) = elim (cases_Bool (is_blank c)) [
+  | inl blank ↦ rw blank (words-unindented cs)
+  | inr other ↦ ap words (unindented-other c cs other)
 ]
 
-pub begins_word-after_blanks : (text : List ℕ) → 0 < length (after_blanks text) → begins_word (after_blanks text) ≡ true
-begins_word-after_blanks [] some = absurd (omega arith)
-begins_word-after_blanks (c ∷ cs) some = elim (cases_Bool (is_blank c)) [
-  | inl blank ↦ rw blank (begins_word-after_blanks cs (rw blank at some))
+pub begins_word-unindented : (text : List ℕ) → 0 < length (unindented text) → begins_word (unindented text) ≡ true
+begins_word-unindented [] some = absurd (omega arith)
+begins_word-unindented (c ∷ cs) some = elim (cases_Bool (is_blank c)) [
+  | inl blank ↦ rw blank (begins_word-unindented cs (rw blank at some))
   | inr other ↦ rw (other, other) refl
 ]
 
@@ -40,25 +41,25 @@ and_false : (t : Bool) → (t && false) ≡ false
 and_false true = refl
 and_false false = refl
 
-pub before_blanks-blank : (xs : List ℕ) (b : ℕ) → is_blank b ≡ true → before_blanks (xs ++ b ∷ []) ≡ before_blanks xs
-before_blanks-blank [] b blank = rw blank refl
-before_blanks-blank (x ∷ xs) b blank =
+pub without_trail-blank : (xs : List ℕ) (b : ℕ) → is_blank b ≡ true → without_trail (xs ++ b ∷ []) ≡ without_trail xs
+without_trail-blank [] b blank = rw blank refl
+without_trail-blank (x ∷ xs) b blank =
     let e : list_all is_blank (x ∷ (xs ++ b ∷ [])) ≡ list_all is_blank (x ∷ xs) = all-push (x ∷ xs) b ∙ ap (λ t. list_all is_blank (x ∷ xs) && t) blank ∙ and_true (list_all is_blank (x ∷ xs)) in
-    ap (λ t. cond t [] (x ∷ before_blanks (xs ++ b ∷ []))) e ∙ ap (λ u. cond (list_all is_blank (x ∷ xs)) [] (x ∷ u)) (before_blanks-blank xs b blank)
+    ap (λ t. cond t [] (x ∷ without_trail (xs ++ b ∷ []))) e ∙ ap (λ u. cond (list_all is_blank (x ∷ xs)) [] (x ∷ u)) (without_trail-blank xs b blank)
 
-pub before_blanks-other : (xs : List ℕ) (b : ℕ) → is_blank b ≡ false → before_blanks (xs ++ b ∷ []) ≡ xs ++ b ∷ []
-before_blanks-other [] b other = rw other refl
-before_blanks-other (x ∷ xs) b other =
+pub without_trail-other : (xs : List ℕ) (b : ℕ) → is_blank b ≡ false → without_trail (xs ++ b ∷ []) ≡ xs ++ b ∷ []
+without_trail-other [] b other = rw other refl
+without_trail-other (x ∷ xs) b other =
     let e : list_all is_blank (x ∷ (xs ++ b ∷ [])) ≡ false = all-push (x ∷ xs) b ∙ ap (λ t. list_all is_blank (x ∷ xs) && t) other ∙ and_false (list_all is_blank (x ∷ xs)) in
-    ap (λ t. cond t [] (x ∷ before_blanks (xs ++ b ∷ []))) e ∙ ap (λ u. x ∷ u) (before_blanks-other xs b other)
+    ap (λ t. cond t [] (x ∷ without_trail (xs ++ b ∷ []))) e ∙ ap (λ u. x ∷ u) (without_trail-other xs b other)
 
 -- one byte less, where it is a blank
-pub before_blanks-take : (text : List ℕ) (n : ℕ) → n < length text → is_blank (get_or text n 0) ≡ true → before_blanks (take (n + 1) text) ≡ before_blanks (take n text)
-before_blanks-take text n short blank = ap before_blanks (take_more text n 0 short) ∙ before_blanks-blank (take n text) (get_or text n 0) blank
+pub without_trail-take : (text : List ℕ) (n : ℕ) → n < length text → is_blank (get_or text n 0) ≡ true → without_trail (take (n + 1) text) ≡ without_trail (take n text)
+without_trail-take text n short blank = ap without_trail (take_more text n 0 short) ∙ without_trail-blank (take n text) (get_or text n 0) blank
 
 -- the end, at a byte that is no blank
-pub before_blanks-kept : (text : List ℕ) (n : ℕ) → n < length text → is_blank (get_or text n 0) ≡ false → before_blanks (take (n + 1) text) ≡ take (n + 1) text
-before_blanks-kept text n short other = ap before_blanks (take_more text n 0 short) ∙ before_blanks-other (take n text) (get_or text n 0) other ∙ sym (take_more text n 0 short)
+pub without_trail-kept : (text : List ℕ) (n : ℕ) → n < length text → is_blank (get_or text n 0) ≡ false → without_trail (take (n + 1) text) ≡ take (n + 1) text
+without_trail-kept text n short other = ap without_trail (take_more text n 0 short) ∙ without_trail-other (take n text) (get_or text n 0) other ∙ sym (take_more text n 0 short)
 
 -- ---- the length of a word
 

@@ -14,7 +14,8 @@ use Rattle.hall_symbol.specs.declared.generator.Generator.{Generator}
 use Rattle.hall_symbol.specs.Operations.{op_at_origin, inversion_of}
 use Rattle.hall_symbol.specs.Spelling.{Spelling, IsSpelling, text_of, part_of, sign_text}
 use Rattle.hall_symbol.specs.Generators.{generators_of}
-use Rattle.hall_symbol.specs.Words.{AreWords, trimmed, opening, closing}
+use Rattle.iso_text.specs.Lines.{trimmed}
+use Rattle.hall_symbol.specs.Words.{AreWords, opening, closing}
 
 -- [-]LATTICE
 abbrev pub head_text : Bool → Lattice → List ℕ

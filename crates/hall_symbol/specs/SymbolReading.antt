@@ -7,7 +7,7 @@ use Rattle.space_ops.specs.Lattice.{lattice_of}
 use Rattle.space_ops.specs.declared.op.Op.{Op}
 use Rattle.hall_symbol.specs.declared.generator.Generator.{Generator}
 use Rattle.hall_symbol.specs.Operations.{op_at_origin, inversion_of}
-use Rattle.hall_symbol.specs.Words.{trimmed}
+use Rattle.iso_text.specs.Lines.{trimmed}
 use Rattle.hall_symbol.specs.Steps.{◌>>=◌}
 use Rattle.hall_symbol.specs.Generators.{generator_of}
 use Rattle.hall_symbol.specs.WordReading.{words}

@@ -2,7 +2,8 @@
 --
 -- words text: the words of a text, each cut behind a `(`
 use Rattle.std.specs.Prelude.{ℕ, Bool, true, false, ◌==◌, ◌||◌, not, if◌then◌else◌, List, [], ◌∷◌, ◌++◌}
-use Rattle.hall_symbol.specs.Words.{is_blank, can_follow}
+use Rattle.iso_text.specs.Cuts.{is_blank}
+use Rattle.hall_symbol.specs.Words.{can_follow}
 
 -- a word ends with this byte
 abbrev pub ends_word : List ℕ → Bool

@@ -1,28 +1,9 @@
 -- The words of a text.
 --
--- is_blank c: a space or a tab
--- trimmed text: the text without the blanks at its ends
 -- AreWords ws text: the text is these words in order, parted by blanks
-use Rattle.std.specs.Prelude.{◌≡◌, ℕ, Bool, true, ◌==◌, ◌||◌, if◌then◌else◌, List, [], ◌∷◌, ◌++◌, ◌⊎◌}
+use Rattle.std.specs.Prelude.{◌≡◌, ℕ, Bool, true, ◌==◌, ◌||◌, List, [], ◌∷◌, ◌++◌, ◌⊎◌}
 use Rattle.std.specs.List.{list_all}
-
--- a space or a tab
-abbrev pub is_blank : ℕ → Bool
-is_blank c = c == 32 || c == 9
-
--- the text without the blanks that it begins with
-abbrev pub after_blanks : List ℕ → List ℕ
-after_blanks [] = []
-after_blanks (c ∷ cs) = if is_blank c then after_blanks cs else c ∷ cs
-
--- the text without the blanks that it ends with
-abbrev pub before_blanks : List ℕ → List ℕ
-before_blanks [] = []
-before_blanks (c ∷ cs) = if list_all is_blank (c ∷ cs) then [] else c ∷ before_blanks cs
-
--- the text without the blanks at its ends
-abbrev pub trimmed : List ℕ → List ℕ
-trimmed text = before_blanks (after_blanks text)
+use Rattle.iso_text.specs.Cuts.{is_blank}
 
 -- the words that enclose an origin shift
 abbrev pub opening : List ℕ

@@ -1,46 +1,11 @@
 // Blanks and the words of a text.
 ghost use Rattle.std.specs.Prelude.{◌≡◌, ◌+◌, ◌<◌, ◌≤◌, ◌∷◌, [], true, length, take, drop, MatchOption, IfSome};
-ghost use Rattle.hall_symbol.specs.Words.{is_blank, can_follow, after_blanks, before_blanks, trimmed};
+ghost use Rattle.iso_text.specs.Cuts.{is_blank};
+ghost use Rattle.iso_text.specs.Lines.{unindented, without_trail, trimmed};
+ghost use Rattle.hall_symbol.specs.Words.{can_follow};
 ghost use Rattle.hall_symbol.specs.WordReading.{words, ends_word, begins_word};
 
-fn is_blank(byte: u8) -> bool
-    ensures { result ≡ is_blank byte }
-{
-    byte == b' ' || byte == b'\t'
-}
-
-fn after_blanks(text: &[u8]) -> &[u8]
-    ensures value { result.now ≡ after_blanks text.now }
-    ensures shorter { length result.now ≤ length text.now }
-{
-    let mut rest = text;
-    'bytes: while let [first, behind @ ..] = rest {
-        if !is_blank(*first) {
-            return rest;
-        }
-        rest = behind;
-    }
-    rest
-}
-
-fn before_blanks(text: &[u8]) -> &[u8]
-    ensures value { result.now ≡ before_blanks text.now }
-    ensures shorter { length result.now ≤ length text.now }
-{
-    let mut len = text.len();
-    'bytes: while len > 0 && is_blank(text[len - 1]) {
-        len -= 1;
-    }
-    &text[..len]
-}
-
-/// The text without the blanks at its ends.
-pub fn trimmed(text: &[u8]) -> &[u8]
-    ensures value { result.now ≡ trimmed text.now }
-    ensures shorter { length result.now ≤ length text.now }
-{
-    before_blanks(after_blanks(text))
-}
+use iso_text::{is_blank, unindented};
 
 // Whether a text may stand behind a word.
 fn can_follow(text: &[u8]) -> bool
@@ -82,7 +47,7 @@ pub fn next_word(text: &[u8]) -> Option<(&[u8], &[u8])>
     ensures shorter { IfSome result (λ p. length p.0.now + length p.1.now ≤ length text.now) }
     ensures some { IfSome result (λ p. 0 < length p.0.now) }
 {
-    let text = after_blanks(text);
+    let text = unindented(text);
     if text.is_empty() {
         return None;
     }

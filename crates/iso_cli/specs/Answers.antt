@@ -11,7 +11,7 @@ use Rattle.iso_report.specs.declared.refusal.Refusal.TheVariants as refusal
 use Rattle.iso_report.specs.Endings.{Change, Grew, GrewByPrefix, HasFailed, RunIsDone, IsCutShort, IsBrokenOff}
 use Rattle.iso_report.specs.Outcome.{IsOutcome, refused}
 use Rattle.iso_report.specs.Report.{line_of}
-use Rattle.iso_report.specs.SignFile.{line}
+use Rattle.iso_text.specs.Lines.{line}
 use Rattle.iso_cli.specs.declared.status.Status.{Status}
 use Rattle.iso_cli.specs.declared.status.Status.TheVariants as status
 

@@ -16,7 +16,8 @@ use Rattle.iso_report.specs.declared.sign_file.Sign.TheVariants.{Plus, Minus}
 use Rattle.iso_report.specs.declared.sign_file.Symbol.{Symbol}
 use Rattle.iso_report.specs.declared.sign_file.Symbol.TheVariants.{P1, CentricP1, P2, CentricP2}
 use Rattle.iso_report.specs.declared.sign_file.SignFile.{SignFile}
-use Rattle.iso_report.specs.SignFile.{AreValues, IsSignFile, operations_of, line, symbol_text, sign_text, mat_text, mats_text, irrep_line, irrep_lines, symbol_lines}
+use Rattle.iso_text.specs.Lines.{line}
+use Rattle.iso_report.specs.SignFile.{AreValues, IsSignFile, operations_of, symbol_text, sign_text, mat_text, mats_text, irrep_line, irrep_lines, symbol_lines}
 
 pub not_false : IsTrue false → ⊥
 not_false h = cc

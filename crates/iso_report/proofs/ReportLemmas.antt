@@ -12,7 +12,7 @@ use Rattle.std.proofs.lemmas.List.Elements.{Contains-get_or}
 use Rattle.iso_report.specs.declared.direction.SignDirection.{SignDirection}
 use Rattle.iso_report.specs.SeenDirections.{seen, seen_one, AreWithin}
 use Rattle.iso_report.specs.SignDirections.{direction_of}
-use Rattle.iso_report.specs.SignFile.{line}
+use Rattle.iso_text.specs.Lines.{line}
 use Rattle.iso_report.specs.SignRep.{action_of}
 use Rattle.iso_report.specs.declared.sign_file.Sign.{Sign}
 

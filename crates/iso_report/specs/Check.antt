@@ -9,7 +9,7 @@ use Rattle.space_ops.specs.Lattice.{centrings_of, letter_of}
 use Rattle.space_ops.specs.OpText.{text_of}
 use Rattle.super_group.specs.Supercell.{multiplier}
 use Rattle.super_group.specs.Quotient.{SupercellGroup, order_of}
-use Rattle.iso_report.specs.SignFile.{line}
+use Rattle.iso_text.specs.Lines.{line}
 
 -- the line of an operation
 abbrev pub listed_line : Op → List ℕ

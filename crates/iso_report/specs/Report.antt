@@ -9,7 +9,7 @@ use Rattle.iso_report.specs.declared.refusal.Refusal.{Refusal}
 use Rattle.iso_report.specs.declared.refusal.Refusal.TheVariants as refusal
 use Rattle.iso_report.specs.Action.{Action}
 use Rattle.iso_report.specs.Directions.{Direction, dim_of, page}
-use Rattle.iso_report.specs.SignFile.{line}
+use Rattle.iso_text.specs.Lines.{line}
 use Rattle.iso_report.specs.SignRep.{operation}
 
 -- the form of a direction of one coordinate: the letter a where it is free, else 0

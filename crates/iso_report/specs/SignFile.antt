@@ -1,10 +1,10 @@
 -- The files of one sign representation.
 --
 -- symbol_text s: a Hall symbol; operations_of s: its operations in order
--- line text rest: a line and what follows it
 -- file_text s name values: the bytes of a file
 -- IsSignFile bytes f: the bytes are those of the file f
 use Rattle.std.specs.Prelude.{◌≡◌, ℕ, true, ℤ, pos, negsuc, List, [], ◌∷◌, ◌++◌, Some, length, slice_get, codes}
+use Rattle.iso_text.specs.Lines.{line}
 use Rattle.iso_text.specs.Name.{is_name}
 use Rattle.space_ops.specs.declared.op.Op.{Op}
 use Rattle.space_ops.specs.OpText.{text_of}
@@ -35,10 +35,6 @@ operations_of CentricP1 = diagonal (pos 1) (pos 1) (pos 1) ∷ diagonal (negsuc 
 operations_of P2 = diagonal (pos 1) (pos 1) (pos 1) ∷ diagonal (negsuc 0) (negsuc 0) (pos 1) ∷ []
 operations_of CentricP2 =
     diagonal (pos 1) (pos 1) (pos 1) ∷ diagonal (negsuc 0) (negsuc 0) (negsuc 0) ∷ diagonal (negsuc 0) (negsuc 0) (pos 1) ∷ diagonal (pos 1) (pos 1) (negsuc 0) ∷ []
-
--- a line, and what follows its line feed
-abbrev pub line : List ℕ → List ℕ → List ℕ
-line text rest = text ++ 10 ∷ rest
 
 abbrev pub sign_text : Sign → List ℕ
 sign_text Plus = codes "1"

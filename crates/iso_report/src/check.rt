@@ -3,7 +3,7 @@ ghost use Rattle.std.specs.Prelude.{◌≡◌, ◌≤◌, ◌++◌, [], IfOk, On
 ghost use Rattle.space_ops.specs.Lattice.{centrings_of};
 ghost use Rattle.space_ops.specs.OpText.{text_of};
 ghost use Rattle.iso_report.specs.Check.{lattice_line, listed_line, supercell_line, check_text};
-ghost use Rattle.iso_report.specs.SignFile.{line};
+ghost use Rattle.iso_text.specs.Lines.{line};
 
 use crate::report::op_line;
 use iso_text::{NoMemory, Text};

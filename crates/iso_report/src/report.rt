@@ -5,7 +5,7 @@ ghost use Rattle.iso_report.specs.Report.{head_lines, op_line, form_text, direct
 ghost use Rattle.iso_report.specs.SeenDirections.{seen, seen_one, AreWithin};
 ghost use Rattle.std.specs.List.{enumerate_from};
 ghost use Rattle.iso_report.specs.SignDirections.{direction_of};
-ghost use Rattle.iso_report.specs.SignFile.{line};
+ghost use Rattle.iso_text.specs.Lines.{line};
 ghost use Rattle.iso_report.specs.SignRep.{operation, action_of};
 ghost use Rattle.space_ops.specs.OpText.{text_of};
 

@@ -2,7 +2,8 @@
 ghost use Rattle.std.specs.Prelude.{◌≡◌, ◌≢◌, ◌+◌, ◌<◌, ◌≤◌, ◌++◌, [], ◌∷◌, ◌==◌, true, List, ℕ, position, length, IfOk, IfSome, IfNone, IsTrue, IsFalse, ◌↔◌, slice_get, Some, MatchOption, codes, string_bytes};
 ghost use Rattle.iso_text.specs.Name.{is_name};
 ghost use Rattle.space_ops.specs.OpText.{text_of};
-ghost use Rattle.iso_report.specs.SignFile.{diagonal, symbol_text, operations_of, line, sign_text, mat_text, mats_text, irrep_line, irrep_lines, symbol_lines, AreValues, IsSignFile};
+ghost use Rattle.iso_text.specs.Lines.{line};
+ghost use Rattle.iso_report.specs.SignFile.{diagonal, symbol_text, operations_of, sign_text, mat_text, mats_text, irrep_line, irrep_lines, symbol_lines, AreValues, IsSignFile};
 
 use arrayvec::ArrayVec;
 use iso_text::{Name, NoMemory, Text};

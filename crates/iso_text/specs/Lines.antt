@@ -4,7 +4,8 @@
 -- is_skipped line: a comment, or nothing but blanks
 -- is_text line: no byte but the printable ones of ASCII and the tab
 -- unindented text, trimmed text: without the blanks in front, or at both ends
-use Rattle.std.specs.Prelude.{ℕ, Bool, List, [], ◌∷◌, map, nat_le, ◌==◌, ◌&&◌, ◌||◌, if◌then◌else◌}
+-- line text rest: a line of a report with its line feed, and what follows it
+use Rattle.std.specs.Prelude.{ℕ, Bool, List, [], ◌∷◌, ◌++◌, map, nat_le, ◌==◌, ◌&&◌, ◌||◌, if◌then◌else◌}
 use Rattle.std.specs.List.{list_all}
 use Rattle.iso_text.specs.Cuts.{onto_first, is_blank, begins, is_byte}
 
@@ -45,3 +46,7 @@ without_trail (c ∷ cs) = if list_all is_blank (c ∷ cs) then [] else c ∷ wi
 
 abbrev pub trimmed : List ℕ → List ℕ
 trimmed text = without_trail (unindented text)
+
+-- a line of a report with its line feed, and what follows it
+abbrev pub line : List ℕ → List ℕ → List ℕ
+line text rest = text ++ 10 ∷ rest

@@ -35,6 +35,7 @@ mod word_lists;
 pub use document::Document;
 pub use errors::{Failed, NoMemory, TakeError, WriteFault};
 pub use fractions::UNITS_PER_EDGE;
+pub use lines::{is_blank, trimmed, unindented};
 pub use list::{Stab, TextList};
 pub use memory::{CalmSource, MemSource};
 pub use memory_sink::MemSink;

@@ -1,5 +1,5 @@
 // The lines of a file's bytes.
-ghost use Rattle.std.specs.Prelude.{◌≡◌, ◌∷◌, ◌<◌, length};
+ghost use Rattle.std.specs.Prelude.{◌≡◌, ◌∷◌, ◌<◌, ◌≤◌, length};
 ghost use Rattle.std.specs.List.{list_all};
 ghost use Rattle.iso_text.specs.Cuts.{is_blank};
 ghost use Rattle.iso_text.specs.Lines.{lines_of, without_return, is_skipped, is_text_byte, is_text, unindented, without_trail, trimmed};
@@ -26,7 +26,8 @@ pub fn first_line(bytes: &[u8]) -> (&[u8], &[u8])
     (without_return(line), behind)
 }
 
-fn is_blank(byte: u8) -> bool
+/// Whether a byte is a space or a tab.
+pub fn is_blank(byte: u8) -> bool
     ensures { result ≡ is_blank byte }
 {
     byte == b' ' || byte == b'\t'
@@ -63,7 +64,8 @@ pub fn is_text(line: &[u8]) -> bool
 
 /// The text without the blanks in front.
 pub fn unindented(text: &[u8]) -> &[u8]
-    ensures { result.now ≡ unindented text.now }
+    ensures value { result.now ≡ unindented text.now }
+    ensures shorter { length result.now ≤ length text.now }
 {
     let mut rest = text;
     while let [first, behind @ ..] = rest {

@@ -1,5 +1,6 @@
 use Rattle.std.proofs.Common.{◌∙◌, ◌++◌, ◌+◌, take, sym, ap, arith}
-use Rattle.iso_report.specs.SignFile.{line, sign_text, mats_text}
+use Rattle.iso_text.specs.Lines.{line}
+use Rattle.iso_report.specs.SignFile.{sign_text, mats_text}
 use Rattle.iso_report.proofs.FileLemmas.{mats_more, no_value}
 use Rattle.iso_report.proofs.sign_file.read_values.Goals as goal
 
