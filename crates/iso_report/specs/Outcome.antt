@@ -58,9 +58,13 @@ pub record IsParentOf (gens : List Op) (lattice : Lattice) (parent : Parent) : T
 abbrev pub AfterText : (File → Finding → Type 0) → List ℕ → Finding → Type 0
 AfterText next bytes f = ((n : ℕ) × HasCause (lines_of bytes) (BadText n) × (f ≡ refused (refusal.BadText n))) ⊎ ((file : File) × IsFile (lines_of bytes) file × next file f)
 
--- a file with an irrep is beyond what is built
-abbrev pub AfterIrreps : (File → Finding → Type 0) → File → Finding → Type 0
-AfterIrreps next file f = ((0 < length file.irreps) × (f ≡ refused refusal.NotBuilt)) ⊎ ((length file.irreps ≡ 0) × next file f)
+-- what is built of files so far: format 1, and no irrep
+abbrev pub IsBuilt : File → Type 0
+IsBuilt file = (file.format ≡ 1) × (length file.irreps ≡ 0)
+
+-- the file is of what is built
+abbrev pub AfterBuilt : (File → Finding → Type 0) → File → Finding → Type 0
+AfterBuilt next file f = ((IsBuilt file → ⊥) × (f ≡ refused refusal.NotBuilt)) ⊎ (IsBuilt file × next file f)
 
 -- the text of the `hall` line is a Hall symbol
 abbrev pub AfterHall : (Lattice → List Op → Finding → Type 0) → File → Finding → Type 0
@@ -94,4 +98,4 @@ IsChecked s f = f ≡ report (check_text s)
 -- what the definitions say for a job and a file's bytes
 abbrev pub IsOutcome : Job → List ℕ → Finding → Type 0
 IsOutcome job.List bytes f = AfterForm (AfterLaw IsListed) bytes f
-IsOutcome job.Check bytes f = AfterText (AfterIrreps (AfterHall (AfterParent (AfterSupercell IsChecked [])))) bytes f
+IsOutcome job.Check bytes f = AfterText (AfterBuilt (AfterHall (AfterParent (AfterSupercell IsChecked [])))) bytes f

@@ -2,7 +2,7 @@
 ghost use Rattle.std.specs.Prelude.{◌≡◌, ◌≤◌, [], length, IfOk, MatchResult, Some, slice_get};
 ghost use Rattle.iso_report.specs.Endings.{RunIsDone, RunFails, change};
 ghost use Rattle.iso_report.specs.Found.{finding_of};
-ghost use Rattle.iso_report.specs.Outcome.{AfterForm, AfterLaw, IsListed, AfterText, AfterIrreps, AfterHall, AfterParent, AfterSupercell, IsChecked, IsOutcome};
+ghost use Rattle.iso_report.specs.Outcome.{AfterForm, AfterLaw, IsListed, AfterText, AfterBuilt, AfterHall, AfterParent, AfterSupercell, IsChecked, IsOutcome};
 ghost use Rattle.space_ops.specs.Group.{AreGenerators};
 ghost use Rattle.iso_report.specs.SignFile.{operations_of};
 
@@ -84,11 +84,11 @@ fn check_hall(alloc: Global, document: &Document) -> Result<Found, NoMemory>
     }
 }
 
-// A file with an irrep is beyond what is built.
+// A file of format 2 or with an irrep is beyond what is built.
 fn check_document(alloc: Global, document: &Document) -> Result<Found, NoMemory>
-    ensures { IfOk result (λ found. AfterIrreps (AfterHall (AfterParent (AfterSupercell IsChecked []))) document.now (finding_of found)) }
+    ensures { IfOk result (λ found. AfterBuilt (AfterHall (AfterParent (AfterSupercell IsChecked []))) document.now (finding_of found)) }
 {
-    if document.irreps().is_empty() {
+    if document.format() == 1 && document.irreps().is_empty() {
         check_hall(alloc, document)
     } else {
         Ok(Found::Refused(Refusal::NotBuilt))
@@ -98,7 +98,7 @@ fn check_document(alloc: Global, document: &Document) -> Result<Found, NoMemory>
 // What the definitions say for `check`.
 fn find_parent(alloc: Global, bytes: &[u8]) -> Result<Found, NoMemory>
     requires { length bytes.now ≤ MAX_BYTES }
-    ensures { IfOk result (λ found. AfterText (AfterIrreps (AfterHall (AfterParent (AfterSupercell IsChecked [])))) bytes.now (finding_of found)) }
+    ensures { IfOk result (λ found. AfterText (AfterBuilt (AfterHall (AfterParent (AfterSupercell IsChecked [])))) bytes.now (finding_of found)) }
 {
     match Document::read(alloc, bytes) {
         Ok(document) => check_document(alloc, &document),
