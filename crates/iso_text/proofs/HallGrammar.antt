@@ -1,5 +1,5 @@
 -- The line of a Hall symbol, by how it is put together, against its reader.
-use Rattle.std.proofs.Common.{◌≡◌, ℕ, ◌+◌, ◌<◌, ◌≤◌, Bool, true, false, List, [], ◌∷◌, ◌++◌, length, codes, refl, sym, ◌∙◌, ap, subst, arith, append_assoc, length-append, ◌&&◌, if◌then◌else◌, Some, None}
+use Rattle.std.proofs.Common.{◌≡◌, ℕ, ◌<◌, ◌≤◌, Bool, true, false, List, [], ◌∷◌, ◌++◌, length, codes, refl, sym, ◌∙◌, ap, subst, arith, length-append, ◌&&◌, if◌then◌else◌, Some}
 use Rattle.std.specs.List.{list_all}
 use Rattle.std.proofs.lemmas.List.Folds.{list_all-append}
 use Rattle.iso_text.specs.Cuts.{front, back, is_blank}
@@ -10,6 +10,7 @@ use Rattle.iso_text.specs.WordSpellings.{AreBlanks, IsWord, EndsWord}
 use Rattle.iso_text.specs.declared.line_kinds.Line.{Line}
 use Rattle.iso_text.specs.declared.line_kinds.Line.TheVariants.{Hall}
 use Rattle.iso_text.proofs.BodyLemmas.{both, apart}
+use Rattle.iso_text.proofs.LineLemmas.{true_right}
 use Rattle.iso_text.proofs.SpellingLemmas.{Stops, front-back, none_some}
 use Rattle.iso_text.proofs.WordsGrammar.{IsKeyed, is_keyed, indented, blank_unindented, other_unindented, unindented_behind}
 
@@ -28,10 +29,6 @@ has_trail : (text : List ℕ) → HasTrail text
 has_trail [] = record { trail = []; blank = refl; joined = refl }
 has_trail (c ∷ cs) = trail_step c cs (list_all is_blank (c ∷ cs)) refl (has_trail cs)
 
-true_right : (b c : Bool) → c ≡ true → (b && c) ≡ b
-true_right true c is = is
-true_right false c is = refl
-
 -- blanks behind a text
 all_behind : (text trail : List ℕ) → AreBlanks trail → list_all is_blank (text ++ trail) ≡ list_all is_blank text
 all_behind text trail blank = list_all-append is_blank text trail ∙ true_right (list_all is_blank text) (list_all is_blank trail) blank
@@ -40,17 +37,17 @@ blanks_go : (trail : List ℕ) → AreBlanks trail → without_trail trail ≡ [
 blanks_go [] blank = refl
 blanks_go (c ∷ cs) blank = ap (λ t. if t then [] else c ∷ without_trail cs) blank
 
-trail_goes : (text trail : List ℕ) → AreBlanks trail → without_trail (text ++ trail) ≡ without_trail text
-trail_goes [] trail blank = blanks_go trail blank
-trail_goes (c ∷ cs) trail blank =
+trail_drops : (text trail : List ℕ) → AreBlanks trail → without_trail (text ++ trail) ≡ without_trail text
+trail_drops [] trail blank = blanks_go trail blank
+trail_drops (c ∷ cs) trail blank =
     ap (λ t. if is_blank c && t then [] else c ∷ without_trail (cs ++ trail)) (all_behind cs trail blank)
-    ∙ ap (λ x. if is_blank c && list_all is_blank cs then [] else c ∷ x) (trail_goes cs trail blank)
+    ∙ ap (λ x. if is_blank c && list_all is_blank cs then [] else c ∷ x) (trail_drops cs trail blank)
 
 -- a text without blanks at its end has none there
-once : (text : List ℕ) → without_trail (without_trail text) ≡ without_trail text
-once text =
+trail_once : (text : List ℕ) → without_trail (without_trail text) ≡ without_trail text
+trail_once text =
     let has = has_trail text in
-    sym (trail_goes (without_trail text) has.trail has.blank) ∙ ap without_trail (sym has.joined)
+    sym (trail_drops (without_trail text) has.trail has.blank) ∙ ap without_trail (sym has.joined)
 
 trail_first : (c : ℕ) (cs : List ℕ) (t : Bool) → is_blank c ≡ false → (is_blank c && list_all is_blank cs) ≡ t → unindented (if t then [] else c ∷ without_trail cs) ≡ (if t then [] else c ∷ without_trail cs)
 trail_first c cs true other is = refl
@@ -69,7 +66,7 @@ bare_front [] = refl
 bare_front (c ∷ cs) = bare_front_step c cs (is_blank c) refl (bare_front cs)
 
 trimmed_once : (text : List ℕ) → trimmed (trimmed text) ≡ trimmed text
-trimmed_once text = ap without_trail (bare_front text) ∙ once (unindented text)
+trimmed_once text = ap without_trail (bare_front text) ∙ trail_once (unindented text)
 
 -- a text that trimming keeps begins with no blank
 shorter : (text : List ℕ) → length (trimmed text) ≤ length text
@@ -87,7 +84,7 @@ trimmed_symbol : (gap trail : List ℕ) (c : ℕ) (cs : List ℕ) → AreBlanks 
 trimmed_symbol gap trail c cs gap_blank trail_blank bare =
     let other = bare_first c cs (is_blank c) refl bare in
     ap without_trail (unindented_behind gap ((c ∷ cs) ++ trail) gap_blank ∙ other_unindented c (cs ++ trail) other)
-    ∙ trail_goes (c ∷ cs) trail trail_blank ∙ sym (ap without_trail (other_unindented c cs other)) ∙ bare
+    ∙ trail_drops (c ∷ cs) trail trail_blank ∙ sym (ap without_trail (other_unindented c cs other)) ∙ bare
 
 hall_word : IsWord (codes "hall")
 hall_word = record { some = omega arith; whole = refl }

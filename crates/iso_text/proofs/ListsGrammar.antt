@@ -1,5 +1,5 @@
 -- Texts of so many words, by how they are put together, against the readers' functions.
-use Rattle.std.proofs.Common.{◌≡◌, ℕ, ℤ, ◌+◌, ◌-◌, ◌≤◌, Bool, true, false, List, [], ◌∷◌, ◌++◌, length, Option, Some, None, refl, sym, ◌∙◌, ap, subst, arith, append-nil, nat_le, ◌&&◌, if◌then◌else◌}
+use Rattle.std.proofs.Common.{◌≡◌, ℕ, ℤ, ◌≤◌, true, List, [], ◌∷◌, ◌++◌, length, Option, Some, None, refl, sym, ◌∙◌, ap, subst, arith, append-nil, nat_le, if◌then◌else◌}
 use Rattle.std.specs.Prelude.{option_and_then}
 use Rattle.std.specs.Option.{option_map}
 use Rattle.std.specs.Str.{bytes_eq}
@@ -12,7 +12,7 @@ use Rattle.iso_text.specs.Spellings.{SpellsPlace}
 use Rattle.iso_text.specs.SumSpellings.{SpellsNumber}
 use Rattle.iso_text.specs.WordSpellings.{Each, Three, SpellsSite}
 use Rattle.iso_text.specs.declared.numbers.Term.{Term}
-use Rattle.iso_text.proofs.NumberSpellings.{number-sound, number-complete}
+use Rattle.iso_text.proofs.NumberSpellings.{if_true, number-sound, number-complete}
 use Rattle.iso_text.proofs.SignSpellings.{place-sound, place-complete}
 use Rattle.iso_text.proofs.SpellingLemmas.{le_true, true_le, none_some, map_some}
 use Rattle.iso_text.proofs.Steps.{guard, bind}
@@ -132,13 +132,9 @@ numbers-complete (w ∷ words) (n ∷ ns) s =
     ap (λ o. option_and_then (λ x. option_map (λ more. x ∷ more) (numbers_of words)) o) (number-complete w n s.0)
     ∙ ap (λ o. option_map (λ more. n ∷ more) o) (numbers-complete words ns s.1)
 
-few_step : (b : Bool) (o : Option (List (List Term))) (ns : List (List Term)) → (if b then o else None) ≡ Some ns → (b ≡ true) × (o ≡ Some ns)
-few_step true o ns e = (refl, e)
-few_step false o ns e = none_some e
-
 pub few-sound : (most : ℕ) (words : List (List ℕ)) (ns : List (List Term)) → few_numbers_of most words ≡ Some ns → (length words ≤ most) × Each SpellsNumber words ns
 few-sound most words ns e =
-    let test = few_step (nat_le (length words) most) (numbers_of words) ns e in
+    let test = if_true (nat_le (length words) most) (numbers_of words) ns e in
     (le_true (length words) most test.0, numbers-sound words ns test.1)
 
 pub few-complete : (most : ℕ) (words : List (List ℕ)) (ns : List (List Term)) → length words ≤ most → Each SpellsNumber words ns → few_numbers_of most words ≡ Some ns

@@ -1,9 +1,9 @@
 -- What the words behind a keyword spell is what the readers find in them.
-use Rattle.std.proofs.Common.{◌≡◌, ℕ, ℤ, ◌+◌, ◌-◌, ◌≤◌, ◌==◌, Bool, true, false, List, [], ◌∷◌, ◌++◌, length, codes, Option, Some, None, refl, sym, ◌∙◌, ap, subst, arith, append-nil, nat_le, ◌&&◌, if◌then◌else◌, inl, inr}
-use Rattle.std.specs.Prelude.{option_and_then, ◌⊎◌}
+use Rattle.std.proofs.Common.{◌≡◌, ℕ, ℤ, ◌+◌, ◌-◌, ◌≤◌, List, [], ◌∷◌, ◌++◌, Option, Some, None, sym, ◌∙◌, ap, arith, append-nil, nat_le, if◌then◌else◌, inl, inr}
+use Rattle.std.specs.Prelude.{option_and_then}
 use Rattle.std.specs.Option.{option_map}
 use Rattle.iso_text.specs.Fractions.{k_fraction_of, place_of}
-use Rattle.iso_text.specs.LineKinds.{is_none_left, one, three_of, site_of, name_of, few_numbers_of, head_of, letter_of, lattice_of, op_of, size_of, irrep_of, k_of, mat_of, vector_of, atom_of, tolerance_line_of, cell_of, value_of, axial_of, end_of}
+use Rattle.iso_text.specs.LineKinds.{is_none_left, one, three_of, site_of, name_of, few_numbers_of, head_of, lattice_of, op_of, size_of, irrep_of, k_of, mat_of, vector_of, atom_of, tolerance_line_of, cell_of, value_of, axial_of, end_of}
 use Rattle.iso_text.specs.LineSpellings.{Says}
 use Rattle.iso_text.specs.Spellings.{SpellsKFraction, SpellsPlace}
 use Rattle.iso_text.specs.WordSpellings.{Three, SpellsSite}
@@ -102,10 +102,10 @@ three_places words vs s = alone-complete place_of (λ w v. SpellsPlace w v) (λ 
 cell_by : ℕ → List Frac → List Frac → List Frac → List (List ℕ) → Option Line
 cell_by n a b c words = option_and_then (λ o. if is_none_left o.1 then Some (Cell (record { line = n; rows = a ∷ b ∷ c ∷ []; origin = o.0 })) else None) (three_of place_of words)
 
-cells : (n : ℕ) (words ra rb rc : List (List ℕ)) (a b c : List Frac) (o : List ℤ) → three_of k_fraction_of words ≡ Some (a, ra) → three_of k_fraction_of ra ≡ Some (b, rb) → three_of k_fraction_of rb ≡ Some (c, rc) → three_of place_of rc ≡ Some (o, [])
+cell_by_rows : (n : ℕ) (words ra rb rc : List (List ℕ)) (a b c : List Frac) (o : List ℤ) → three_of k_fraction_of words ≡ Some (a, ra) → three_of k_fraction_of ra ≡ Some (b, rb) → three_of k_fraction_of rb ≡ Some (c, rc) → three_of place_of rc ≡ Some (o, [])
     → cell_of n words ≡ Some (Cell (record { line = n; rows = a ∷ b ∷ c ∷ []; origin = o }))
 unfolding cell_by
-cells n words ra rb rc a b c o first second third origin =
+cell_by_rows n words ra rb rc a b c o first second third origin =
     ap (λ p. option_and_then (λ x. option_and_then (λ y. option_and_then (λ z. cell_by n x.0 y.0 z.0 z.1) (three_of k_fraction_of y.1)) (three_of k_fraction_of x.1)) p) first
     ∙ ap (λ p. option_and_then (λ y. option_and_then (λ z. cell_by n a y.0 z.0 z.1) (three_of k_fraction_of y.1)) p) second
     ∙ ap (λ p. option_and_then (λ z. cell_by n a b z.0 z.1) p) third
@@ -114,7 +114,7 @@ cells n words ra rb rc a b c o first second third origin =
 pub cell-complete : (n : ℕ) (words : List (List ℕ)) (c : CellText) → Says n words (Cell c) → cell_of n words ≡ Some (Cell c)
 cell-complete n words c s =
     let p = s.1 in
-    cells n words (p.second ++ (p.third ++ p.behind)) (p.third ++ p.behind) p.behind p.row1 p.row2 p.row3 c.origin (ap (λ x. three_of k_fraction_of x) p.joined ∙ three_rows p.first p.row1 (p.second ++ (p.third ++ p.behind)) p.along1) (three_rows p.second p.row2 (p.third ++ p.behind) p.along2) (three_rows p.third p.row3 p.behind p.along3) (three_places p.behind c.origin p.origin)
+    cell_by_rows n words (p.second ++ (p.third ++ p.behind)) (p.third ++ p.behind) p.behind p.row1 p.row2 p.row3 c.origin (ap (λ x. three_of k_fraction_of x) p.joined ∙ three_rows p.first p.row1 (p.second ++ (p.third ++ p.behind)) p.along1) (three_rows p.second p.row2 (p.third ++ p.behind) p.along2) (three_rows p.third p.row3 p.behind p.along3) (three_places p.behind c.origin p.origin)
     ∙ ap (λ x. Some (Cell (record { line = n; rows = x; origin = c.origin }))) (sym p.rows)
     ∙ ap (λ x. Some (Cell (record { line = x; rows = c.rows; origin = c.origin }))) (sym s.0)
 

@@ -1,6 +1,6 @@
 -- What the readers find in the words behind a keyword is what these words spell.
-use Rattle.std.proofs.Common.{◌≡◌, ℕ, ℤ, ◌+◌, ◌-◌, ◌≤◌, ◌==◌, Bool, true, false, List, [], ◌∷◌, ◌++◌, length, codes, Option, Some, None, refl, sym, ◌∙◌, ap, subst, arith, append-nil, nat_le, ◌&&◌, if◌then◌else◌, inl, inr}
-use Rattle.std.specs.Prelude.{option_and_then, ◌⊎◌}
+use Rattle.std.proofs.Common.{◌≡◌, ℕ, ℤ, ◌+◌, ◌-◌, ◌≤◌, true, List, [], ◌∷◌, ◌++◌, codes, Some, None, refl, sym, ◌∙◌, ap, subst, arith, nat_le, ◌&&◌, inl, inr}
+use Rattle.std.specs.Prelude.{option_and_then}
 use Rattle.std.specs.Option.{option_map}
 use Rattle.std.specs.Str.{bytes_eq}
 use Rattle.iso_text.specs.Fractions.{k_fraction_of, place_of, tolerance_of}
@@ -10,14 +10,13 @@ use Rattle.iso_text.specs.Operations.{operation_of}
 use Rattle.iso_text.specs.SectionSpellings.{is_letter, SpellsCell}
 use Rattle.iso_text.specs.Spellings.{SpellsKFraction, SpellsPlace}
 use Rattle.iso_text.specs.WordSpellings.{Three, SpellsSite}
-use Rattle.iso_text.specs.declared.line_kinds.IrrepLine.{IrrepLine}
 use Rattle.iso_text.specs.declared.line_kinds.Line.{Line}
-use Rattle.iso_text.specs.declared.line_kinds.Line.TheVariants.{Head, Lattice, Op, Irrep, K, Mat, RealVector, Atom, Tolerance, Cell, Listed, Value, Axial, End}
-use Rattle.iso_text.specs.declared.sections.AtomText.{AtomText}
+use Rattle.iso_text.specs.declared.line_kinds.Line.TheVariants.{Head, Lattice, Op, Irrep, K, Atom, Tolerance, Cell, Listed, Value, Axial, End}
 use Rattle.iso_text.specs.declared.numbers.Frac.{Frac}
+use Rattle.iso_text.specs.declared.sections.AtomText.{AtomText}
 use Rattle.iso_text.proofs.BodyLemmas.{apart}
 use Rattle.iso_text.proofs.FractionSpellings.{k_fraction-sound}
-use Rattle.iso_text.proofs.ListsGrammar.{same_text, none_left, one_is, two_is, IsThree, IsSite, all_first, three-sound, three_alone, name-sound, site-sound, site_alone, few-sound}
+use Rattle.iso_text.proofs.ListsGrammar.{same_text, none_left, one_is, two_is, IsThree, three-sound, three_alone, name-sound, site-sound, site_alone, few-sound}
 use Rattle.iso_text.proofs.RowSpellings.{operation-sound}
 use Rattle.iso_text.proofs.SignSpellings.{place-sound, tolerance-sound}
 use Rattle.iso_text.proofs.SpellingLemmas.{le_true, none_some, map_some, choose}
