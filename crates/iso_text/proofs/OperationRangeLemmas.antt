@@ -1,5 +1,6 @@
 -- What the words of operations spell is within the ranges of the format.
 --
+-- AreThree-of: three values
 -- operation-in_range: entries from -3 to 3, shifts of at most 120 cell edges
 use Rattle.std.proofs.Common.{◌≡◌, ℕ, ℤ, pos, ◌*◌, ◌/◌, ◌≤◌, Bool, List, [], ◌∷◌, Option, Some, None, refl, sym, subst, inl, inr, arith}
 use Rattle.std.specs.Prelude.{unwrap_or, IfSome}

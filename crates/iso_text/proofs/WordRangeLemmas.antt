@@ -2,7 +2,8 @@
 --
 -- IsWithin-signed, sum-in_range: a number with its sign; the items of a sum
 -- number-in_range, fraction-in_range, place-in_range, tolerance-in_range: the words
--- each-in_range, three-in_range: words in a row
+-- each-in_range, each-length, three-in_range: words in a row
+-- apart: the parts of a test
 use Rattle.std.proofs.Common.{◌≡◌, ℕ, zero, suc, ℤ, pos, ◌+◌, ◌-◌, ◌*◌, ◌/◌, ◌%◌, ◌^◌, ◌<◌, ◌≤◌, ◌≤ℤ◌, Bool, true, false, ◌&&◌, List, [], ◌∷◌, length, refl, sym, ◌∙◌, ap, subst, inl, inr, arith}
 use Prim.Native.Nat.{◌∣◌}
 use Rattle.std.specs.Prelude.{fold}
