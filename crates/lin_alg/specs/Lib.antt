@@ -29,3 +29,5 @@ pub mod MoveLaws
 pub mod ImageLaws
 pub mod CompareLaws
 pub mod IndependenceLaws
+pub mod SignAction
+pub mod SignActionLaws

@@ -3,6 +3,7 @@ ghost use Rattle.std.specs.Prelude.{◌≡◌, length};
 
 mod measured;
 mod over_z24;
+mod sign;
 
 use crate::{Echelon, Grew, LinError, Matrix, Row, are_independent, solve};
 use cyclo24::{Field, K24};
