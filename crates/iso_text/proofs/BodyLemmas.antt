@@ -22,3 +22,10 @@ new_names-snoc before (j ∷ irreps) i old new =
 
 pub all-snoc : {X : Type 0} (p : X → Bool) (xs : List X) (x : X) → list_all p xs ≡ true → p x ≡ true → list_all p (xs ++ x ∷ []) ≡ true
 all-snoc p xs x old new = list_all-append p xs (x ∷ []) ∙ both (list_all p xs) (list_all p (x ∷ [])) old (both (p x) true new refl)
+
+and_true : (b c : Bool) → c ≡ true → (b && c) ≡ b
+and_true true c e = e
+and_true false c e = refl
+
+pub same-snoc : {X : Type 0} (p : X → Bool) (xs : List X) (x : X) → p x ≡ true → list_all p (xs ++ x ∷ []) ≡ list_all p xs
+same-snoc p xs x new = list_all-append p xs (x ∷ []) ∙ and_true (list_all p xs) (p x && true) (both (p x) true new refl)

@@ -7,5 +7,4 @@ pub fn law_of_files()
     ensures file { FilesAreUnique }
     ensures cause { CausesAreUnique }
     ensures apart { FilesHaveNoCause }
-{
-}
+{}
