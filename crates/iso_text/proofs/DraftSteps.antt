@@ -73,7 +73,7 @@ op_keeps o (stage.Lattice n g) f e step at =
 op_keeps o _ f e step at = absurd cc
 
 -- the file with its lattice and operations
-abbrev with_ops : ℕ → OpsText → File → File
+abbrev pub with_ops : ℕ → OpsText → File → File
 with_ops n g f = record f { hall_line = n; generators = Some g }
 
 ops_sound : (n : ℕ) (g : OpsText) (f : File) → f ≡ empty_file 2 → nat_le (length g.ops) 5 ≡ true → (length g.ops == 0) ≡ false
