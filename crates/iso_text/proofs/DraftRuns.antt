@@ -9,7 +9,7 @@ use Rattle.iso_text.specs.declared.line_kinds.Line.TheVariants.{Skip, Bad}
 use Rattle.iso_text.proofs.BodyLemmas.{both, apart}
 use Rattle.iso_text.proofs.DraftLines.{is_said, lines_at, IsAt, Holds}
 use Rattle.iso_text.proofs.DraftSteps.{next_keeps}
-use Rattle.iso_text.proofs.SaidLines.{is_kept, is_good}
+use Rattle.iso_text.proofs.KindsOfLines.{is_kept, is_good}
 use Rattle.iso_text.proofs.Steps.{bind}
 
 -- the draft after the lines

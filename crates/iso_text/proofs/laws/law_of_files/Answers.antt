@@ -1,4 +1,4 @@
-use Rattle.iso_text.proofs.Completions.{completes}
+use Rattle.iso_text.proofs.FileRuns.{file_runs}
 use Rattle.iso_text.proofs.laws.law_of_files.Goals as goal
 
 pub returns : goal.returns
