@@ -147,6 +147,9 @@ cell_told : (tolerance : Option ℤ) (cell : Option CellText) (listed : List Ato
 cell_told None cell listed matched = let both_none = matched refl in (inl both_none.0, inl both_none.1)
 cell_told (Some t) cell listed matched = (inr refl, inr refl)
 
+ends : (d : Draft) (f : File) → settled d.stage d.document ≡ Some f → runs d (End ∷ []) ≡ Some (draft stage.Done f)
+ends d f is = ap (λ o. option_and_then (λ e. Some e) (option_and_then (on_section End) o)) is
+
 -- a file runs to its end
 pub file_runs : (f : File) → IsSound f → runs begin (file_lines f) ≡ Some (draft stage.Done f)
 file_runs f sound =
@@ -177,5 +180,4 @@ file_runs f sound =
     let t1 : Leads r0.0 (s1 ++ (s2 ++ (s3 ++ (s4 ++ (s5 ++ (s6 ++ [])))))) f = leads_on r0.0 s1 (s2 ++ (s3 ++ (s4 ++ (s5 ++ (s6 ++ []))))) (with_atoms f f.atoms) f r1 t2 in
     let t0 : Leads p.0 (s0 ++ (s1 ++ (s2 ++ (s3 ++ (s4 ++ (s5 ++ (s6 ++ []))))))) f = leads_on p.0 s0 (s1 ++ (s2 ++ (s3 ++ (s4 ++ (s5 ++ (s6 ++ [])))))) (with_irreps f f.irreps) f r0 t1 in
     let all : Leads begin (body_lines f) f = leads_on begin head (s0 ++ (s1 ++ (s2 ++ (s3 ++ (s4 ++ (s5 ++ (s6 ++ []))))))) (with_parent f.format f.hall_line f.hall f.generators) f p t0 in
-    then_runs begin all.0 (body_lines f) (End ∷ []) (Some (draft stage.Done f)) all.1
-    (ap (λ o. option_and_then (λ e. Some e) (option_and_then (on_section End) o)) all.2)
+    then_runs begin all.0 (body_lines f) (End ∷ []) (Some (draft stage.Done f)) all.1 (ends all.0 f all.2)

@@ -58,7 +58,7 @@ trail_stops (c ∷ d ∷ cs) (suc n) size last =
 take_all : (text : List ℕ) (n : ℕ) → length text ≡ n + 1 → take (n + 1) text ≡ text
 take_all text n size = grind (arith, common_steps)
 
-true_right : (b c : Bool) → c ≡ true → (b && c) ≡ b
+pub true_right : (b c : Bool) → c ≡ true → (b && c) ≡ b
 true_right true c is = is
 true_right false c is = refl
 

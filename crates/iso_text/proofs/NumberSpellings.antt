@@ -23,7 +23,7 @@ all_terms (part ∷ parts) =
     ap (λ o. option_and_then (λ t. option_map (λ ts. t ∷ ts) (terms_of parts)) o) (signed_terms part)
     ∙ ap (λ o. option_and_then (λ t. option_map (λ ts. t ∷ ts) o) (read_signed term_of part)) (all_terms parts)
 
-if_true : {X : Type 0} (b : Bool) (o : Option X) (x : X) → (if b then o else None) ≡ Some x → (b ≡ true) × (o ≡ Some x)
+pub if_true : {X : Type 0} (b : Bool) (o : Option X) (x : X) → (if b then o else None) ≡ Some x → (b ≡ true) × (o ≡ Some x)
 if_true true o x e = (refl, e)
 if_true false o x e = none_some e
 
