@@ -147,6 +147,9 @@ cell_told : (tolerance : Option ℤ) (cell : Option CellText) (listed : List Ato
 cell_told None cell listed matched = let both_none = matched refl in (inl both_none.0, inl both_none.1)
 cell_told (Some t) cell listed matched = (inr refl, inr refl)
 
+leads_last : (d : Draft) (a : List Line) (g : File) → Leads d a g → Leads d (a ++ []) g
+leads_last d a g first = (first.0, then_runs d first.0 a [] (Some first.0) first.1 refl, first.2)
+
 ends : (d : Draft) (f : File) → settled d.stage d.document ≡ Some f → runs d (End ∷ []) ≡ Some (draft stage.Done f)
 ends d f is = ap (λ o. option_and_then (λ e. Some e) (option_and_then (on_section End) o)) is
 
@@ -172,7 +175,7 @@ file_runs f sound =
     let r4 = listed_run f r3.0 r3.2 (few_lines (λ a. Listed a) f.listed 4096 (few 4)) told.1 in
     let r5 = values_run f r4.0 r4.2 (few_lines (λ v. Value v) f.values 4096 (few 5)) second.values in
     let r6 = axials_run f r5.0 r5.2 (few_lines (λ v. Axial v) f.axials 4096 (few 6)) second.axials in
-    let t6 : Leads r5.0 (s6 ++ []) f = leads_on r5.0 s6 [] f f r6 (r6.0, refl, r6.2) in
+    let t6 : Leads r5.0 (s6 ++ []) f = leads_last r5.0 s6 f r6 in
     let t5 : Leads r4.0 (s5 ++ (s6 ++ [])) f = leads_on r4.0 s5 (s6 ++ []) (with_values f f.values) f r5 t6 in
     let t4 : Leads r3.0 (s4 ++ (s5 ++ (s6 ++ []))) f = leads_on r3.0 s4 (s5 ++ (s6 ++ [])) (with_listed f f.listed) f r4 t5 in
     let t3 : Leads r2.0 (s3 ++ (s4 ++ (s5 ++ (s6 ++ [])))) f = leads_on r2.0 s3 (s4 ++ (s5 ++ (s6 ++ []))) (with_cell f f.cell) f r3 t4 in

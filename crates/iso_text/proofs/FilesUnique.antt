@@ -1,5 +1,5 @@
 -- A list of lines is at most one file, and has at most one cause of bad text.
-use Rattle.std.proofs.Common.{◌≡◌, ℕ, ◌+◌, ◌<◌, ◌≤◌, List, [], ◌∷◌, ◌++◌, length, take, Option, Some, refl, sym, ◌∙◌, ap, subst, arith, append_assoc, append-nil, inl, inr, min}
+use Rattle.std.proofs.Common.{◌≡◌, ℕ, ◌+◌, ◌<◌, ◌≤◌, List, [], ◌∷◌, ◌++◌, length, take, Option, Some, refl, sym, ◌∙◌, ap, subst, arith, append_assoc, append-nil, inl, inr}
 use Rattle.std.specs.Prelude.{option_and_then, ◌⊎◌, Result, Ok, Err, IfOk, IfErr, MatchResult}
 use Rattle.std.proofs.lemmas.Bool.{cases_lt}
 use Rattle.std.proofs.lemmas.List.{take_all, take-take}
@@ -41,7 +41,7 @@ read_only lines (Err NoMemory) is cause f file = refl
 read_only lines (Err (BadText number)) is cause f file = absurd (file_not_bad lines f cause.0 file cause.2)
 
 front_of_front : (lines : List (List ℕ)) (m n : ℕ) → n < m → take (n + 1) (take m lines) ≡ take (n + 1) lines
-front_of_front lines m n below = take-take (n + 1) m lines ∙ ap (λ k. take k lines) {y = n + 1} (omega (arith, below))
+front_of_front lines m n below = take-take (n + 1) m lines (omega (arith, below))
 
 shorter_front : (lines : List (List ℕ)) (m n : ℕ) → n < m → IsStart (take m lines) → IsStart (take (n + 1) lines)
 shorter_front lines m n below start = subst (λ x. IsStart x) (front_of_front lines m n below) (front_is_start (take m lines) (n + 1) start)
