@@ -1,5 +1,5 @@
 -- The lines of an irrep block, and a block at the end of a file.
-use Rattle.std.proofs.Common.{◌≡◌, ℕ, Bool, true, false, List, [], ◌∷◌, ◌++◌, length, map, Option, Some, None, refl, sym, ◌∙◌, ap, subst, arith, inl, inr, ◌&&◌, ◌==◌, nat_le, nat_lt, append_assoc, append-nil, length-append, if◌then◌else◌}
+use Rattle.std.proofs.Common.{◌≡◌, Bool, true, false, List, [], ◌∷◌, ◌++◌, length, map, Option, Some, None, refl, sym, ◌∙◌, ap, subst, arith, inl, inr, ◌&&◌, ◌==◌, nat_le, nat_lt, append_assoc, append-nil, length-append}
 use Rattle.std.specs.Prelude.{◌⊎◌, is_none, not}
 use Rattle.std.specs.List.{list_all}
 use Rattle.std.specs.Option.{option_to_list}

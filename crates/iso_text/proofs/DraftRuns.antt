@@ -1,8 +1,8 @@
 -- Whole runs of a draft over lines.
-use Rattle.std.proofs.Common.{◌≡◌, Bool, true, false, List, [], ◌∷◌, ◌++◌, Option, Some, None, refl, sym, ◌∙◌, ap, subst, ◌&&◌, append_assoc, append-nil}
+use Rattle.std.proofs.Common.{◌≡◌, true, List, [], ◌∷◌, ◌++◌, Option, Some, None, refl, sym, ◌∙◌, ap, subst, append_assoc, append-nil}
 use Rattle.std.specs.Prelude.{option_and_then, filter}
 use Rattle.std.specs.List.{list_all}
-use Rattle.iso_text.specs.Draft.{draft, next_of}
+use Rattle.iso_text.specs.Draft.{next_of}
 use Rattle.iso_text.specs.declared.draft.Draft.{Draft}
 use Rattle.iso_text.specs.declared.line_kinds.Line.{Line}
 use Rattle.iso_text.specs.declared.line_kinds.Line.TheVariants.{Skip, Bad}

@@ -1,17 +1,17 @@
 -- Each line adds itself to the lines of a draft.
-use Rattle.std.proofs.Common.{◌≡◌, ℕ, Bool, true, false, List, [], ◌∷◌, ◌++◌, length, map, Option, Some, None, refl, sym, ◌∙◌, ap, subst, arith, inl, inr, ◌&&◌, ◌||◌, ◌==◌, nat_le, nat_lt, length-append, append-nil, if◌then◌else◌}
+use Rattle.std.proofs.Common.{◌≡◌, ℕ, Bool, true, false, List, [], ◌∷◌, ◌++◌, length, map, Some, refl, sym, ◌∙◌, ap, subst, arith, inl, inr, ◌==◌, nat_le, nat_lt, length-append, append-nil}
 use Rattle.std.specs.Prelude.{◌⊎◌, option_and_then}
 use Rattle.std.proofs.lemmas.Bool.{ltb-true}
 use Rattle.std.proofs.lemmas.List.{map-append}
 use Rattle.iso_text.specs.Draft.{draft, settled, on_head, on_hall, on_lattice, on_op, on_section, next_of}
-use Rattle.iso_text.specs.File.{IsSound, is_parent}
+use Rattle.iso_text.specs.File.{IsSound}
 use Rattle.iso_text.specs.FileLines.{body_lines, empty_file}
 use Rattle.iso_text.specs.FileValue.{File}
 use Rattle.iso_text.specs.declared.draft.Draft.{Draft}
 use Rattle.iso_text.specs.declared.draft.Stage.{Stage}
 use Rattle.iso_text.specs.declared.draft.Stage.TheVariants as stage
 use Rattle.iso_text.specs.declared.line_kinds.Line.{Line}
-use Rattle.iso_text.specs.declared.line_kinds.Line.TheVariants.{Skip, Bad, Head, Hall, Lattice, Op, Irrep, K, Mat, RealVector, Atom, Tolerance, Cell, Listed, Value, Axial, End}
+use Rattle.iso_text.specs.declared.line_kinds.Line.TheVariants.{Skip, Bad, Head, Hall, Lattice, Op, K, Mat, RealVector}
 use Rattle.iso_text.specs.declared.sections.OpLine.{OpLine}
 use Rattle.iso_text.specs.declared.sections.OpsText.{OpsText}
 use Rattle.iso_text.proofs.BlockSteps.{k_keeps, mat_keeps, vector_keeps, closed, closed_sound, closed_lines}

@@ -1,12 +1,12 @@
 -- Each file runs to its end.
-use Rattle.std.proofs.Common.{◌≡◌, ℕ, ℤ, zero, suc, ◌+◌, ◌<◌, ◌≤◌, ◌==◌, Bool, true, false, List, [], ◌∷◌, ◌++◌, length, map, Option, Some, None, refl, sym, ◌∙◌, ap, arith, inl, inr, ◌&&◌, ◌||◌, nat_lt, nat_le, append_assoc, append-nil, length-append, if◌then◌else◌}
-use Rattle.std.specs.Prelude.{◌⊎◌, option_and_then, is_none, is_some, not}
+use Rattle.std.proofs.Common.{◌≡◌, ℕ, ℤ, zero, suc, ◌+◌, ◌≤◌, ◌==◌, Bool, true, List, [], ◌∷◌, ◌++◌, length, map, Option, Some, None, refl, sym, ◌∙◌, ap, arith, inl, inr, ◌&&◌, nat_lt, nat_le, append_assoc, append-nil, length-append}
+use Rattle.std.specs.Prelude.{◌⊎◌, option_and_then, is_none, is_some}
 use Rattle.std.specs.List.{list_all, flat_map}
 use Rattle.std.specs.Option.{option_to_list}
 use Rattle.std.proofs.lemmas.Bool.{lt-ltb}
 use Rattle.iso_text.specs.Draft.{draft, settled, section_takes, on_section, begin}
-use Rattle.iso_text.specs.File.{IsSound, is_first_format, is_parent, is_few, is_block, is_new, have_new_names}
-use Rattle.iso_text.specs.FileLines.{Section, sections, section, section_lines, each, block_lines, body_lines, parent_lines, file_lines}
+use Rattle.iso_text.specs.File.{IsSound, is_first_format, is_few, is_block, is_new, have_new_names}
+use Rattle.iso_text.specs.FileLines.{Section, sections, each, block_lines, body_lines, parent_lines, file_lines}
 use Rattle.iso_text.specs.FileValue.{File}
 use Rattle.iso_text.specs.declared.draft.Draft.{Draft}
 use Rattle.iso_text.specs.declared.draft.Stage.TheVariants as stage
@@ -16,7 +16,6 @@ use Rattle.iso_text.specs.declared.sections.AtomText.{AtomText}
 use Rattle.iso_text.specs.declared.sections.AxialText.{AxialText}
 use Rattle.iso_text.specs.declared.sections.CellText.{CellText}
 use Rattle.iso_text.specs.declared.sections.IrrepText.{IrrepText}
-use Rattle.iso_text.specs.declared.sections.OpsText.{OpsText}
 use Rattle.iso_text.specs.declared.sections.ValueText.{ValueText}
 use Rattle.iso_text.proofs.BodyLemmas.{both, apart}
 use Rattle.iso_text.proofs.DraftRuns.{runs, then_runs}

@@ -1,20 +1,19 @@
 -- Runs over the parent, a block, and the lines of one section.
-use Rattle.std.proofs.Common.{◌≡◌, ℕ, ℤ, zero, suc, ◌+◌, ◌<◌, ◌≤◌, ◌==◌, Bool, true, false, List, [], ◌∷◌, ◌++◌, length, map, Option, Some, None, refl, sym, ◌∙◌, ap, arith, inl, inr, ◌&&◌, ◌||◌, nat_lt, nat_le, append_assoc, append-nil, length-append, if◌then◌else◌}
-use Rattle.std.specs.Prelude.{◌⊎◌, option_and_then, is_none, is_some, not}
+use Rattle.std.proofs.Common.{◌≡◌, ℕ, ◌+◌, ◌≤◌, ◌==◌, true, false, List, [], ◌∷◌, ◌++◌, length, map, Option, Some, None, refl, sym, ◌∙◌, ap, arith, inl, inr, ◌&&◌, nat_lt, nat_le, append_assoc, append-nil, length-append, if◌then◌else◌}
+use Rattle.std.specs.Prelude.{◌⊎◌, option_and_then, is_none, not}
 use Rattle.std.specs.List.{list_all, flat_map}
 use Rattle.std.specs.Option.{option_to_list}
 use Rattle.std.proofs.lemmas.Bool.{lt-ltb}
 use Rattle.std.proofs.lemmas.Bool.Decides.{nat_tests}
-use Rattle.iso_text.specs.Draft.{draft, settled, section_takes, on_irrep, takes_mat, takes_vector, on_op, on_section, next_of, begin}
-use Rattle.iso_text.specs.File.{IsSound, is_first_format, is_parent, is_few, has_entries, is_block, is_new, have_new_names}
-use Rattle.iso_text.specs.FileLines.{Section, sections, section, section_lines, each, block_lines, parent_lines, file_lines, empty_file}
+use Rattle.iso_text.specs.Draft.{draft, settled, section_takes, on_irrep, takes_mat, takes_vector, on_section, next_of, begin}
+use Rattle.iso_text.specs.File.{is_parent, has_entries, is_block, is_new}
+use Rattle.iso_text.specs.FileLines.{each, block_lines, parent_lines, empty_file}
 use Rattle.iso_text.specs.FileValue.{File}
 use Rattle.iso_text.specs.declared.draft.Draft.{Draft}
 use Rattle.iso_text.specs.declared.draft.Stage.TheVariants as stage
 use Rattle.iso_text.specs.declared.line_kinds.IrrepLine.{IrrepLine}
 use Rattle.iso_text.specs.declared.line_kinds.Line.{Line}
-use Rattle.iso_text.specs.declared.line_kinds.Line.TheVariants.{Head, Hall, Lattice, Op, Irrep, K, Mat, RealVector, Atom, Tolerance, Cell, Listed, Value, Axial, End}
-use Rattle.iso_text.specs.declared.sections.AtomText.{AtomText}
+use Rattle.iso_text.specs.declared.line_kinds.Line.TheVariants.{Head, Op, Irrep, K, Mat, RealVector}
 use Rattle.iso_text.specs.declared.sections.IrrepText.{IrrepText}
 use Rattle.iso_text.specs.declared.sections.MatText.{MatText}
 use Rattle.iso_text.specs.declared.sections.OpLine.{OpLine}
@@ -22,7 +21,7 @@ use Rattle.iso_text.specs.declared.sections.OpsText.{OpsText}
 use Rattle.iso_text.specs.declared.sections.VectorText.{VectorText}
 use Rattle.iso_text.proofs.BodyLemmas.{both, apart}
 use Rattle.iso_text.proofs.DraftRuns.{runs, then_runs}
-use Rattle.iso_text.proofs.Steps.{none_is, zero_length}
+use Rattle.iso_text.proofs.Steps.{zero_length}
 
 -- what can follow the file so far: a draft that is settled as that file
 abbrev pub Leads : Draft → List Line → File → Type 0

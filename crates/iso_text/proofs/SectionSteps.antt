@@ -1,18 +1,18 @@
 -- A line of a section, or the end, adds itself to the lines of a file.
-use Rattle.std.proofs.Common.{◌≡◌, ℕ, ℤ, Bool, true, false, List, [], ◌∷◌, ◌++◌, length, map, Option, Some, None, refl, sym, ◌∙◌, ap, subst, inl, inr, ◌&&◌, ◌||◌, ◌==◌, nat_lt, if◌then◌else◌}
-use Rattle.std.specs.Prelude.{is_some, is_none, not}
-use Rattle.std.specs.List.{flat_map, list_all}
+use Rattle.std.proofs.Common.{◌≡◌, ℕ, ℤ, Bool, true, [], ◌∷◌, ◌++◌, length, Option, Some, None, refl, sym, ◌∙◌, ap, subst, inr, ◌&&◌, ◌||◌, ◌==◌, nat_lt, if◌then◌else◌}
+use Rattle.std.specs.Prelude.{is_some, not}
+use Rattle.std.specs.List.{flat_map}
 use Rattle.std.specs.Option.{option_to_list}
 use Rattle.std.proofs.lemmas.List.{map-append}
 use Rattle.iso_text.specs.Draft.{draft, has_room, section_takes, on_section, is_second, is_matched}
 use Rattle.iso_text.specs.File.{IsSound, is_new}
-use Rattle.iso_text.specs.FileLines.{Section, sections, section_lines, each, body_lines, parent_lines}
+use Rattle.iso_text.specs.FileLines.{sections, section_lines, each, body_lines, parent_lines}
 use Rattle.iso_text.specs.FileValue.{File}
 use Rattle.iso_text.specs.declared.draft.Draft.{Draft}
 use Rattle.iso_text.specs.declared.draft.Stage.TheVariants as stage
 use Rattle.iso_text.specs.declared.line_kinds.IrrepLine.{IrrepLine}
 use Rattle.iso_text.specs.declared.line_kinds.Line.{Line}
-use Rattle.iso_text.specs.declared.line_kinds.Line.TheVariants.{Skip, Bad, Head, Hall, Lattice, Op, Irrep, K, Mat, RealVector, Atom, Tolerance, Cell, Listed, Value, Axial, End}
+use Rattle.iso_text.specs.declared.line_kinds.Line.TheVariants.{Head, Irrep, Atom, Tolerance, Cell, Listed, Value, Axial, End}
 use Rattle.iso_text.specs.declared.sections.AtomText.{AtomText}
 use Rattle.iso_text.specs.declared.sections.AxialText.{AxialText}
 use Rattle.iso_text.specs.declared.sections.CellText.{CellText}

@@ -1,11 +1,10 @@
 -- A run over lines against the definitions of a file and a start.
-use Rattle.std.proofs.Common.{◌≡◌, ℕ, ◌+◌, ◌<◌, ◌≤◌, true, List, [], ◌∷◌, ◌++◌, length, filter, take, drop, Option, Some, None, refl, sym, ◌∙◌, ap, subst, arith, inl, inr, length-append, append_assoc, ◌&&◌}
-use Rattle.std.specs.Prelude.{option_and_then, ◌⊎◌, Result, Ok, Err, IfOk, IfErr, MatchResult}
+use Rattle.std.proofs.Common.{◌≡◌, ℕ, ◌+◌, ◌≤◌, List, [], ◌∷◌, ◌++◌, length, filter, take, drop, Option, Some, None, refl, sym, ◌∙◌, ap, subst, arith, inl, inr, length-append}
+use Rattle.std.specs.Prelude.{option_and_then}
 use Rattle.std.specs.List.{list_all}
-use Rattle.std.proofs.lemmas.List.{take-take}
 use Rattle.std.proofs.lemmas.List.Folds.{list_all-append}
 use Rattle.iso_text.specs.Draft.{draft, next_of, begin, finished, Refuses}
-use Rattle.iso_text.specs.File.{IsSound, IsFile, IsStart, IsBadAfter, HasCause}
+use Rattle.iso_text.specs.File.{IsFile, IsStart, IsBadAfter, HasCause}
 use Rattle.iso_text.specs.FileLines.{file_lines}
 use Rattle.iso_text.specs.FileValue.{File}
 use Rattle.iso_text.specs.LineKinds.{kind_of}
@@ -23,7 +22,7 @@ use Rattle.iso_text.proofs.DraftLines.{is_said}
 use Rattle.iso_text.proofs.DraftRuns.{runs, runs_append, then_runs, runs_keep, runs_kept, runs_good}
 use Rattle.iso_text.proofs.FileRuns.{file_runs}
 use Rattle.iso_text.proofs.KindsOfLines.{kinds, is_kept, say-sound, say-complete}
-use Rattle.iso_text.proofs.LineFacts.{lines_said, say_front, split_take, kinds_more, length_take, take_length, all_taken}
+use Rattle.iso_text.proofs.LineFacts.{lines_said, split_take, kinds_more, length_take, take_length, all_taken}
 use Rattle.iso_text.proofs.Steps.{some_is}
 
 -- what runs says what the reader keeps

@@ -26,41 +26,13 @@ pub struct Section {
 /// axial vectors.
 #[rattlefmt::skip]
 pub const SECTIONS: [Section; 7] = [
-    Section {
-        most: 8,
-        is_second: false,
-        is_matched: false,
-    },
-    Section {
-        most: 64,
-        is_second: false,
-        is_matched: false,
-    },
-    Section {
-        most: 1,
-        is_second: false,
-        is_matched: false,
-    },
-    Section {
-        most: 1,
-        is_second: true,
-        is_matched: true,
-    },
-    Section {
-        most: 4096,
-        is_second: false,
-        is_matched: true,
-    },
-    Section {
-        most: 4096,
-        is_second: true,
-        is_matched: false,
-    },
-    Section {
-        most: 4096,
-        is_second: true,
-        is_matched: false,
-    },
+    Section { most: 8, is_second: false, is_matched: false },
+    Section { most: 64, is_second: false, is_matched: false },
+    Section { most: 1, is_second: false, is_matched: false },
+    Section { most: 1, is_second: true, is_matched: true },
+    Section { most: 4096, is_second: false, is_matched: true },
+    Section { most: 4096, is_second: true, is_matched: false },
+    Section { most: 4096, is_second: true, is_matched: false },
 ];
 
 fn are_zero(counts: &[usize]) -> bool

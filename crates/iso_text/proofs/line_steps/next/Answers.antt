@@ -1,11 +1,10 @@
-use Rattle.std.proofs.Common.{◌≡◌, ◌∙◌, ap, sym, refl, Option, Some, ℕ, List}
+use Rattle.std.proofs.Common.{◌≡◌, ◌∙◌, ap, sym, refl, Some, ℕ, List}
 use Rattle.std.specs.Prelude.{option_and_then}
 use Rattle.iso_text.specs.Draft.{settled, on_section, next_of}
 use Rattle.iso_text.specs.FileValue.{File}
 use Rattle.iso_text.specs.declared.draft.Draft.{Draft}
-use Rattle.iso_text.specs.declared.errors.NoMemory.{NoMemory}
 use Rattle.iso_text.specs.declared.line_kinds.Line.{Line}
-use Rattle.iso_text.specs.declared.line_kinds.Line.TheVariants.{Skip, Bad, Head, Hall, Lattice, Op, Irrep, K, Mat, RealVector, Atom, Tolerance, Cell, Listed, Value, Axial, End}
+use Rattle.iso_text.specs.declared.line_kinds.Line.TheVariants.{Skip, Bad, Head, Hall, Lattice, Op, K, Mat, RealVector}
 use Rattle.iso_text.specs.declared.numbers.Frac.{Frac}
 use Rattle.iso_text.specs.declared.sections.MatText.{MatText}
 use Rattle.iso_text.specs.declared.sections.OpLine.{OpLine}

@@ -1,8 +1,7 @@
-use Rattle.std.proofs.Common.{◌≡◌, ◌∙◌, ap, sym, true, if◌then◌else◌, Option, Some, None, ℕ}
+use Rattle.std.proofs.Common.{◌≡◌, ◌∙◌, ap, sym, true, if◌then◌else◌, Some, None, ℕ}
 use Rattle.std.specs.Prelude.{option_and_then}
 use Rattle.iso_text.specs.Draft.{section_takes, section_of, with_line, on_section}
 use Rattle.iso_text.specs.FileValue.{File}
-use Rattle.iso_text.specs.declared.draft.Draft.{Draft}
 use Rattle.iso_text.specs.declared.line_kinds.Line.{Line}
 use Rattle.iso_text.specs.declared.line_kinds.Line.TheVariants.{End}
 use Rattle.iso_text.proofs.Steps.{if_ok}
