@@ -9,7 +9,7 @@ for values in on_small_values on_small_fractions near_2_to_60; do
     valgrind --tool=callgrind --callgrind-out-file="$profile" "$binary" "measured_sums::$values" > /dev/null 2>&1
     callgrind_annotate --inclusive=yes "$profile" | awk -v values="$values" '
         /K24Field::mul/ && !product { gsub(",", "", $1); product = $1 / 1000 }
-        /measured::</ && !both { gsub(",", "", $1); both = $1 / 1000 }
+        /measured_sums::measured/ && !both { gsub(",", "", $1); both = $1 / 1000 }
         END { printf "%s: product %d instructions, product and sum with the loop around them %d\n", values, product, both }'
     rm -f "$profile"
 done

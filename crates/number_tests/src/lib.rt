@@ -18,3 +18,5 @@ mod measured_forms;
 mod measured_sums;
 #[cfg(test)]
 mod rows;
+#[cfg(test)]
+mod values;
