@@ -20,3 +20,5 @@ mod measured_sums;
 mod rows;
 #[cfg(test)]
 mod sign;
+#[cfg(test)]
+mod values;
