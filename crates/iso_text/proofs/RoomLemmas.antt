@@ -1,7 +1,7 @@
 -- Whether a section has room, by the numbers of items of all sections.
 use Rattle.std.proofs.Common.{◌≡◌, ℕ, zero, suc, ◌+◌, ◌-◌, ◌<◌, ◌≤◌, ◌==◌, ◌&&◌, Bool, true, false, List, [], ◌∷◌, length, map, get_or, take, drop, nat_lt, refl, sym, ◌∙◌, ap, arith, length-drop}
 use Rattle.std.specs.List.{list_all}
-use Rattle.std.proofs.lemmas.Bool.Decides.{nat_tests}
+use Rattle.std.proofs.lemmas.Bool.{lt-ltb, le-ltb}
 use Rattle.std.proofs.lemmas.List.{take_all}
 use Rattle.std.proofs.lemmas.List.Folds.{list_all-map}
 use Rattle.iso_text.specs.Draft.{has_room}
@@ -28,12 +28,6 @@ length_counts : (ss : List Section) → length (counts ss) ≡ length ss
 length_counts [] = refl
 length_counts (s ∷ behind) = omega (arith, length_counts behind)
 
-lower : (a b : ℕ) → a < b → nat_lt a b ≡ true
-lower a b h = grind (arith, nat_tests)
-
-not_lower : (a b : ℕ) → b ≤ a → nat_lt a b ≡ false
-not_lower a b h = grind (arith, nat_tests)
-
 behind_is : (n : ℕ) (xs : List ℕ) (m : ℕ) → length xs ≡ m → take (m - (n + 1)) (drop (n + 1) xs) ≡ drop (suc n) xs
 behind_is n xs m size = take_all (m - (n + 1)) (drop (n + 1) xs) (omega (arith, size, length-drop (n + 1) xs)) ∙ ap (λ k. drop k xs) {y = suc n} (omega arith)
 
@@ -41,13 +35,13 @@ pub room_then : (z : Bool) (n m most : ℕ) (ss : List Section) (ks : List ℕ) 
 room_then z n m most ss ks size below are is few behind =
     behind ∙ ap (λ xs. list_all (λ k. k == 0) (take (m - (n + 1)) (drop (n + 1) xs))) are
     ∙ ap (list_all (λ k. k == 0)) (behind_is n (counts ss) m (length_counts ss ∙ size))
-    ∙ ap (λ b. b && list_all (λ k. k == 0) (drop (suc n) (counts ss))) (sym (lower (get_or (counts ss) n 0) (most_at n ss) (omega (arith, few, is, ap (λ xs. get_or xs n 0) are))))
+    ∙ ap (λ b. b && list_all (λ k. k == 0) (drop (suc n) (counts ss))) (sym (lt-ltb (get_or (counts ss) n 0) (most_at n ss) (omega (arith, few, is, ap (λ xs. get_or xs n 0) are))))
     ∙ room_by_counts n ss (omega (arith, below, size))
 
 pub room_else : (n m most : ℕ) (ss : List Section) (ks : List ℕ) → length ss ≡ m → n < m → ks ≡ counts ss → most ≡ most_at n ss → most ≤ get_or ks n 0 → nat_lt (get_or ks n 0) most ≡ has_room n ss
 room_else n m most ss ks size below are is full =
-    not_lower (get_or ks n 0) most full
-    ∙ ap (λ b. b && list_all (λ k. k == 0) (drop (suc n) (counts ss))) (sym (not_lower (get_or (counts ss) n 0) (most_at n ss) (omega (arith, full, is, ap (λ xs. get_or xs n 0) are))))
+    le-ltb (get_or ks n 0) most full
+    ∙ ap (λ b. b && list_all (λ k. k == 0) (drop (suc n) (counts ss))) (sym (le-ltb (get_or (counts ss) n 0) (most_at n ss) (omega (arith, full, is, ap (λ xs. get_or xs n 0) are))))
     ∙ room_by_counts n ss (omega (arith, below, size))
 
 -- a case for each of the seven sections

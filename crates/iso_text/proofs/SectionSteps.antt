@@ -1,18 +1,18 @@
 -- A line of a section, or the end, adds itself to the lines of a file.
-use Rattle.std.proofs.Common.{◌≡◌, ℕ, ℤ, Bool, true, [], ◌∷◌, ◌++◌, length, Option, Some, None, refl, sym, ◌∙◌, ap, subst, inr, ◌&&◌, ◌||◌, ◌==◌, nat_lt, if◌then◌else◌}
-use Rattle.std.specs.Prelude.{is_some, not}
-use Rattle.std.specs.List.{flat_map}
+use Rattle.std.proofs.Common.{◌≡◌, ℕ, ℤ, Bool, true, false, List, [], ◌∷◌, ◌++◌, length, map, Option, Some, None, refl, sym, ◌∙◌, ap, subst, inl, inr, ◌&&◌, ◌||◌, ◌==◌, nat_lt, if◌then◌else◌}
+use Rattle.std.specs.Prelude.{◌⊎◌, is_some, is_none, not}
+use Rattle.std.specs.List.{flat_map, list_all}
 use Rattle.std.specs.Option.{option_to_list}
 use Rattle.std.proofs.lemmas.List.{map-append}
 use Rattle.iso_text.specs.Draft.{draft, has_room, section_takes, on_section, is_second, is_matched}
-use Rattle.iso_text.specs.File.{IsSound, is_new}
-use Rattle.iso_text.specs.FileLines.{sections, section_lines, each, body_lines, parent_lines}
+use Rattle.iso_text.specs.File.{IsSound, is_first_format, is_parent, is_block, is_new, have_new_names}
+use Rattle.iso_text.specs.FileLines.{Section, sections, section_lines, each, body_lines, parent_lines}
 use Rattle.iso_text.specs.FileValue.{File}
 use Rattle.iso_text.specs.declared.draft.Draft.{Draft}
 use Rattle.iso_text.specs.declared.draft.Stage.TheVariants as stage
 use Rattle.iso_text.specs.declared.line_kinds.IrrepLine.{IrrepLine}
 use Rattle.iso_text.specs.declared.line_kinds.Line.{Line}
-use Rattle.iso_text.specs.declared.line_kinds.Line.TheVariants.{Head, Irrep, Atom, Tolerance, Cell, Listed, Value, Axial, End}
+use Rattle.iso_text.specs.declared.line_kinds.Line.TheVariants.{Skip, Bad, Head, Hall, Lattice, Op, Irrep, K, Mat, RealVector, Atom, Tolerance, Cell, Listed, Value, Axial, End}
 use Rattle.iso_text.specs.declared.sections.AtomText.{AtomText}
 use Rattle.iso_text.specs.declared.sections.AxialText.{AxialText}
 use Rattle.iso_text.specs.declared.sections.CellText.{CellText}
@@ -56,61 +56,30 @@ pub none_yet : {V : Type 0} (line : V → Line) (o : Option V) (b : Bool) → (n
 none_yet line None b room = refl
 none_yet line (Some v) b room = absurd cc
 
-atom_grows : (a : AtomText) (f : File) → IsSound f → Takes 1 f → Grows 1 (Atom a) f (record f { atoms = f.atoms ++ a ∷ [] })
-atom_grows a f sound takes =
-    let g : File = record f { atoms = f.atoms ++ a ∷ [] } in
-    let longer : sections g ≡ added 1 (Atom a ∷ []) (sections f) = ap (λ x. replaced 1 x (sections f)) (map-append (λ b. Atom b ∷ []) f.atoms (a ∷ [])) in record {
-      head = refl;
-      longer = longer;
-      sound = record { format = sound.format; parent = sound.parent; few = grown_few 1 (Atom a ∷ []) (sections f) (sections g) longer takes.room sound.few; blocks = sound.blocks; names = sound.names; matched = sound.matched };
-    }
+-- a line added in section n leaves a file sound; the caller says what its format and its tolerance allow
+grown : (n : ℕ) (line : Line) (f g : File) → Takes n f → IsSound f → Head g.format ∷ parent_lines g.hall_line g.hall g.generators ≡ Head f.format ∷ parent_lines f.hall_line f.hall f.generators
+    → is_parent g.hall g.generators ≡ is_parent f.hall f.generators → g.irreps ≡ f.irreps → sections g ≡ added n (line ∷ []) (sections f)
+    → ((g.format ≡ 1) × (is_first_format g ≡ true)) ⊎ (g.format ≡ 2) → (g.tolerance ≡ None → (g.cell ≡ None) × (g.listed ≡ [])) → Grows n line f g
+grown n line f g takes sound head parent irreps longer format matched = record {
+  head = head;
+  longer = longer;
+  sound = record {
+    format = format;
+    parent = parent ∙ sound.parent;
+    few = grown_few n (line ∷ []) (sections f) (sections g) longer takes.room sound.few;
+    blocks = ap (list_all is_block) irreps ∙ sound.blocks;
+    names = ap (have_new_names []) irreps ∙ sound.names;
+    matched = matched;
+  };
+}
 
-tolerance_grows : (t : ℤ) (f : File) → IsSound f → Takes 2 f → Grows 2 (Tolerance t) f (record f { tolerance = Some t })
-tolerance_grows t f sound takes =
-    let g : File = record f { tolerance = Some t } in
-    let none = none_yet (λ x. Tolerance x) f.tolerance _ takes.room in
-    let longer : sections g ≡ added 2 (Tolerance t ∷ []) (sections f) = ap (λ o. replaced 2 (each (λ x. Tolerance x) (option_to_list o) ++ (Tolerance t ∷ []) ∷ []) (sections f)) (sym none) in record {
-      head = refl;
-      longer = longer;
-      sound = record { format = sound.format; parent = sound.parent; few = grown_few 2 (Tolerance t ∷ []) (sections f) (sections g) longer takes.room sound.few; blocks = sound.blocks; names = sound.names; matched = λ never. absurd (no_tolerance (Some t) refl never) };
-    }
+-- a section that is a list has one line more
+list_longer : {V : Type 0} (n : ℕ) (line : V → Line) (vs : List V) (v : V) (ss : List Section) → replaced n (each line (vs ++ v ∷ [])) ss ≡ replaced n (each line vs ++ (line v ∷ []) ∷ []) ss
+list_longer n line vs v ss = ap (λ x. replaced n x ss) (map-append (λ y. line y ∷ []) vs (v ∷ []))
 
-cell_grows : (c : CellText) (f : File) → IsSound f → Takes 3 f → Grows 3 (Cell c) f (record f { cell = Some c })
-cell_grows c f sound takes =
-    let g : File = record f { cell = Some c } in
-    let none = none_yet (λ x. Cell x) f.cell _ takes.room in
-    let longer : sections g ≡ added 3 (Cell c ∷ []) (sections f) = ap (λ o. replaced 3 (each (λ x. Cell x) (option_to_list o) ++ (Cell c ∷ []) ∷ []) (sections f)) (sym none) in record {
-      head = refl;
-      longer = longer;
-      sound = record { format = inr (equal f.format 2 takes.second); parent = sound.parent; few = grown_few 3 (Cell c ∷ []) (sections f) (sections g) longer takes.room sound.few; blocks = sound.blocks; names = sound.names; matched = λ never. absurd (no_tolerance f.tolerance takes.matched never) };
-    }
-
-listed_grows : (a : AtomText) (f : File) → IsSound f → Takes 4 f → Grows 4 (Listed a) f (record f { listed = f.listed ++ a ∷ [] })
-listed_grows a f sound takes =
-    let g : File = record f { listed = f.listed ++ a ∷ [] } in
-    let longer : sections g ≡ added 4 (Listed a ∷ []) (sections f) = ap (λ x. replaced 4 x (sections f)) (map-append (λ b. Listed b ∷ []) f.listed (a ∷ [])) in record {
-      head = refl;
-      longer = longer;
-      sound = record { format = sound.format; parent = sound.parent; few = grown_few 4 (Listed a ∷ []) (sections f) (sections g) longer takes.room sound.few; blocks = sound.blocks; names = sound.names; matched = λ never. absurd (no_tolerance f.tolerance takes.matched never) };
-    }
-
-value_grows : (v : ValueText) (f : File) → IsSound f → Takes 5 f → Grows 5 (Value v) f (record f { values = f.values ++ v ∷ [] })
-value_grows v f sound takes =
-    let g : File = record f { values = f.values ++ v ∷ [] } in
-    let longer : sections g ≡ added 5 (Value v ∷ []) (sections f) = ap (λ x. replaced 5 x (sections f)) (map-append (λ b. Value b ∷ []) f.values (v ∷ [])) in record {
-      head = refl;
-      longer = longer;
-      sound = record { format = inr (equal f.format 2 takes.second); parent = sound.parent; few = grown_few 5 (Value v ∷ []) (sections f) (sections g) longer takes.room sound.few; blocks = sound.blocks; names = sound.names; matched = sound.matched };
-    }
-
-axial_grows : (v : AxialText) (f : File) → IsSound f → Takes 6 f → Grows 6 (Axial v) f (record f { axials = f.axials ++ v ∷ [] })
-axial_grows v f sound takes =
-    let g : File = record f { axials = f.axials ++ v ∷ [] } in
-    let longer : sections g ≡ added 6 (Axial v ∷ []) (sections f) = ap (λ x. replaced 6 x (sections f)) (map-append (λ b. Axial b ∷ []) f.axials (v ∷ [])) in record {
-      head = refl;
-      longer = longer;
-      sound = record { format = inr (equal f.format 2 takes.second); parent = sound.parent; few = grown_few 6 (Axial v ∷ []) (sections f) (sections g) longer takes.room sound.few; blocks = sound.blocks; names = sound.names; matched = sound.matched };
-    }
+-- a section of at most one line has its line
+option_longer : {V : Type 0} (n : ℕ) (line : V → Line) (o : Option V) (v : V) (ss : List Section) → o ≡ None → replaced n (each line (v ∷ [])) ss ≡ replaced n (each line (option_to_list o) ++ (line v ∷ []) ∷ []) ss
+option_longer n line o v ss none = ap (λ x. replaced n (each line (option_to_list x) ++ (line v ∷ []) ∷ []) ss) (sym none)
 
 -- a line of one of the sections of single lines
 single : (n : ℕ) (line : Line) (f g : File) (e : Draft) → (if section_takes n f then Some (draft stage.Body g) else None) ≡ Some e → (Takes n f → Grows n line f g) → Holds e (body_lines f ++ line ∷ [])
@@ -132,11 +101,23 @@ end_keeps f e step sound =
 
 pub section_keeps : (line : Line) (f : File) (e : Draft) → on_section line f ≡ Some e → IsSound f → Holds e (body_lines f ++ line ∷ [])
 section_keeps (Irrep h) f e step sound = irrep_opens h f e step sound
-section_keeps (Atom a) f e step sound = single 1 (Atom a) f (record f { atoms = f.atoms ++ a ∷ [] }) e step (atom_grows a f sound)
-section_keeps (Tolerance t) f e step sound = single 2 (Tolerance t) f (record f { tolerance = Some t }) e step (tolerance_grows t f sound)
-section_keeps (Cell c) f e step sound = single 3 (Cell c) f (record f { cell = Some c }) e step (cell_grows c f sound)
-section_keeps (Listed a) f e step sound = single 4 (Listed a) f (record f { listed = f.listed ++ a ∷ [] }) e step (listed_grows a f sound)
-section_keeps (Value v) f e step sound = single 5 (Value v) f (record f { values = f.values ++ v ∷ [] }) e step (value_grows v f sound)
-section_keeps (Axial v) f e step sound = single 6 (Axial v) f (record f { axials = f.axials ++ v ∷ [] }) e step (axial_grows v f sound)
+section_keeps (Atom a) f e step sound =
+    let g : File = record f { atoms = f.atoms ++ a ∷ [] } in
+    single 1 (Atom a) f g e step (λ takes. grown 1 (Atom a) f g takes sound refl refl refl (list_longer 1 (λ x. Atom x) f.atoms a (sections f)) sound.format sound.matched)
+section_keeps (Tolerance t) f e step sound =
+    let g : File = record f { tolerance = Some t } in
+    single 2 (Tolerance t) f g e step (λ takes. grown 2 (Tolerance t) f g takes sound refl refl refl (option_longer 2 (λ x. Tolerance x) f.tolerance t (sections f) (none_yet (λ x. Tolerance x) f.tolerance _ takes.room)) sound.format (λ never. absurd (no_tolerance (Some t) refl never)))
+section_keeps (Cell c) f e step sound =
+    let g : File = record f { cell = Some c } in
+    single 3 (Cell c) f g e step (λ takes. grown 3 (Cell c) f g takes sound refl refl refl (option_longer 3 (λ x. Cell x) f.cell c (sections f) (none_yet (λ x. Cell x) f.cell _ takes.room)) (inr (equal f.format 2 takes.second)) (λ never. absurd (no_tolerance f.tolerance takes.matched never)))
+section_keeps (Listed a) f e step sound =
+    let g : File = record f { listed = f.listed ++ a ∷ [] } in
+    single 4 (Listed a) f g e step (λ takes. grown 4 (Listed a) f g takes sound refl refl refl (list_longer 4 (λ x. Listed x) f.listed a (sections f)) sound.format (λ never. absurd (no_tolerance f.tolerance takes.matched never)))
+section_keeps (Value v) f e step sound =
+    let g : File = record f { values = f.values ++ v ∷ [] } in
+    single 5 (Value v) f g e step (λ takes. grown 5 (Value v) f g takes sound refl refl refl (list_longer 5 (λ x. Value x) f.values v (sections f)) (inr (equal f.format 2 takes.second)) sound.matched)
+section_keeps (Axial v) f e step sound =
+    let g : File = record f { axials = f.axials ++ v ∷ [] } in
+    single 6 (Axial v) f g e step (λ takes. grown 6 (Axial v) f g takes sound refl refl refl (list_longer 6 (λ x. Axial x) f.axials v (sections f)) (inr (equal f.format 2 takes.second)) sound.matched)
 section_keeps End f e step sound = end_keeps f e step sound
 section_keeps _ f e step sound = absurd cc
