@@ -1,6 +1,6 @@
 -- A line of a section, or the end, adds itself to the lines of a file.
-use Rattle.std.proofs.Common.{◌≡◌, ℕ, ℤ, Bool, true, false, List, [], ◌∷◌, ◌++◌, length, map, Option, Some, None, refl, sym, ◌∙◌, ap, subst, inl, inr, ◌&&◌, ◌||◌, ◌==◌, nat_lt, if◌then◌else◌}
-use Rattle.std.specs.Prelude.{◌⊎◌, is_some, is_none, not}
+use Rattle.std.proofs.Common.{◌≡◌, ℕ, ℤ, Bool, true, List, [], ◌∷◌, ◌++◌, length, Option, Some, None, refl, sym, ◌∙◌, ap, subst, inr, ◌&&◌, ◌||◌, ◌==◌, nat_lt, if◌then◌else◌}
+use Rattle.std.specs.Prelude.{◌⊎◌, is_some, not}
 use Rattle.std.specs.List.{flat_map, list_all}
 use Rattle.std.specs.Option.{option_to_list}
 use Rattle.std.proofs.lemmas.List.{map-append}
@@ -12,11 +12,7 @@ use Rattle.iso_text.specs.declared.draft.Draft.{Draft}
 use Rattle.iso_text.specs.declared.draft.Stage.TheVariants as stage
 use Rattle.iso_text.specs.declared.line_kinds.IrrepLine.{IrrepLine}
 use Rattle.iso_text.specs.declared.line_kinds.Line.{Line}
-use Rattle.iso_text.specs.declared.line_kinds.Line.TheVariants.{Skip, Bad, Head, Hall, Lattice, Op, Irrep, K, Mat, RealVector, Atom, Tolerance, Cell, Listed, Value, Axial, End}
-use Rattle.iso_text.specs.declared.sections.AtomText.{AtomText}
-use Rattle.iso_text.specs.declared.sections.AxialText.{AxialText}
-use Rattle.iso_text.specs.declared.sections.CellText.{CellText}
-use Rattle.iso_text.specs.declared.sections.ValueText.{ValueText}
+use Rattle.iso_text.specs.declared.line_kinds.Line.TheVariants.{Head, Irrep, Atom, Tolerance, Cell, Listed, Value, Axial, End}
 use Rattle.iso_text.proofs.BodyLemmas.{apart}
 use Rattle.iso_text.proofs.DraftLines.{Holds}
 use Rattle.iso_text.proofs.SectionLists.{added, replaced, grown_lines, grown_few}
