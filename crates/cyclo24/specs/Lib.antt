@@ -63,3 +63,5 @@ pub mod RootsK24
 pub mod Short
 pub mod ShortLaws
 pub mod Short4
+pub mod SmallLaws
+pub mod Short4Laws

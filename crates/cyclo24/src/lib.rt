@@ -12,6 +12,8 @@ mod k24;
 mod laws;
 mod powers;
 mod print;
+mod short4;
+mod small;
 mod terms;
 mod whole;
 mod z24;

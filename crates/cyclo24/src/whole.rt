@@ -36,7 +36,7 @@ fn narrow(x: i128) -> Result<Whole, Wide>
 
 // The greatest common divisor of numbers of 64 bits, by Euclid's algorithm.
 #[tactic(auto, using(crate::specs::GcdLaws::gcd_step, crate::specs::GcdLaws::gcd_zero))]
-fn short_euclid(a: u64, b: u64) -> u64
+pub(crate) fn short_euclid(a: u64, b: u64) -> u64
     ensures { result ≡ gcd a b }
 {
     let mut x = a;

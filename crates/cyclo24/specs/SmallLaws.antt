@@ -1,0 +1,62 @@
+-- Products and sums of numbers that 64 bits hold.
+--
+-- times_most, factor_most, sum_most: how large they are
+-- times_fits, factor_fits, sum_fits: 64 bits hold them
+-- product_kept: a product that 64 bits hold, as the program forms it
+-- common_is, common_most, common_fits, common_kept: the same of a greatest common divisor
+use Rattle.std.proofs.Common.{◌≡◌, ℕ, ◌+◌, ◌*◌, ◌^◌, ◌<◌, ◌≤◌, arith, ℤ, pos, ◌+ℤ◌, ◌*ℤ◌, lit≤, le_trans, mul-le-mul, le_refl, ap, ◌∙◌, to_z, of_z}
+use Rattle.std.specs.Prelude.{FitsSigned}
+use Rattle.std.proofs.lemmas.Int.{ints, fits_signed_from_abs, unsigned_abs-mul, to_z-of_z, to_z_pos}
+use Rattle.std.specs.Int.{w64}
+use Rattle.std.specs.Int.RustNames.{unsigned_abs}
+use Rattle.cyclo24.specs.Gcd.{gcd}
+use Rattle.cyclo24.specs.GcdLaws.{gcd_below}
+
+pub times_most : (x y : ℤ) → unsigned_abs x ≤ 2 ^ 28 → unsigned_abs y ≤ 2 ^ 28 → unsigned_abs (x *ℤ y) ≤ 2 ^ 56
+times_most x y h k =
+    let m : unsigned_abs x * unsigned_abs y ≤ 2 ^ 28 * 2 ^ 28 = mul-le-mul h k in
+    omega (arith, m, unsigned_abs-mul x y)
+
+-- the product with a factor of at most b
+pub factor_most : (b : ℕ) (f z : ℤ) → unsigned_abs f ≤ b → unsigned_abs (f *ℤ z) ≤ b * unsigned_abs z
+factor_most b f z e =
+    let m : unsigned_abs f * unsigned_abs z ≤ b * unsigned_abs z = mul-le-mul e (le_refl (unsigned_abs z)) in
+    omega (arith, m, unsigned_abs-mul f z)
+
+pub sum_most : (x y : ℤ) → unsigned_abs (x +ℤ y) ≤ unsigned_abs x + unsigned_abs y
+sum_most x y = omega (arith, ints)
+
+below_fits : (z : ℤ) → unsigned_abs z < 2 ^ 63 → FitsSigned w64 z
+below_fits z h = fits_signed_from_abs w64 z h
+
+pub times_fits : (x y : ℤ) → unsigned_abs x ≤ 2 ^ 28 → unsigned_abs y ≤ 2 ^ 28 → FitsSigned w64 (x *ℤ y)
+times_fits x y h k = below_fits (x *ℤ y) (omega (arith, times_most x y h k))
+
+pub factor_fits : (b : ℕ) (f z : ℤ) → unsigned_abs f ≤ b → b * unsigned_abs z < 2 ^ 63 → FitsSigned w64 (f *ℤ z)
+factor_fits b f z e h = below_fits (f *ℤ z) (omega (arith, factor_most b f z e, h))
+
+pub sum_fits : (x y : ℤ) → unsigned_abs x ≤ 2 ^ 61 → unsigned_abs y ≤ 2 ^ 61 → FitsSigned w64 (x +ℤ y)
+sum_fits x y h k = below_fits (x +ℤ y) (omega (arith, sum_most x y, h, k))
+
+-- a number as 64 bits hold it
+abbrev in64 : ℤ → ℤ
+in64 z = to_z w64 (of_z w64 z)
+
+pub below63 : (z : ℤ) (n : ℕ) → unsigned_abs z ≤ n → n < 2 ^ 63 → FitsSigned w64 z
+below63 z n h k = below_fits z (omega (arith, h, k))
+
+pub product_kept : (x y : ℤ) (m n : ℕ) → unsigned_abs x ≤ m → m < 2 ^ 63 → unsigned_abs y ≤ n → n < 2 ^ 63 → FitsSigned w64 (x *ℤ y) → in64 (in64 x *ℤ in64 y) ≡ x *ℤ y
+product_kept x y m n h k p q f = ap in64 (λ i. to_z-of_z w64 x (below63 x m h k) i *ℤ to_z-of_z w64 y (below63 y n p q) i) ∙ to_z-of_z w64 (x *ℤ y) f
+
+-- what is computed from the bits of two numbers
+pub common_is : (x y : ℤ) (p q r : ℕ) → unsigned_abs x ≤ 2 ^ 62 → unsigned_abs y ≤ 2 ^ 62 → r ≡ gcd p q → p ≡ unsigned_abs (in64 x) → q ≡ unsigned_abs (in64 y) → r ≡ gcd (unsigned_abs x) (unsigned_abs y)
+common_is x y p q r h k e f g = cc (e, f, g, to_z-of_z w64 x (below63 x (2 ^ 62) h (lit≤ tt)), to_z-of_z w64 y (below63 y (2 ^ 62) k (lit≤ tt)))
+
+pub common_most : (x y : ℤ) → unsigned_abs x ≤ 2 ^ 62 → unsigned_abs y ≤ 2 ^ 62 → gcd (unsigned_abs x) (unsigned_abs y) ≤ 2 ^ 62
+common_most x y h k = let b : gcd (unsigned_abs x) (unsigned_abs y) < 2 ^ 62 + 1 = gcd_below (unsigned_abs x) (unsigned_abs y) (2 ^ 62 + 1) (omega arith) (omega arith) in omega (arith, b)
+
+pub common_fits : (n : ℕ) → n ≤ 2 ^ 62 → FitsSigned w64 (pos n)
+common_fits n h = below63 (pos n) (2 ^ 62) h (lit≤ tt)
+
+pub common_kept : (n : ℕ) → n ≤ 2 ^ 62 → to_z w64 n ≡ pos n
+common_kept n h = to_z_pos w64 n (omega (arith, h))
