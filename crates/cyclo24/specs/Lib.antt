@@ -65,3 +65,5 @@ pub mod ShortLaws
 pub mod Short4
 pub mod SmallLaws
 pub mod Short4Laws
+pub mod Lowest4
+pub mod Lowest4Laws

@@ -3,11 +3,13 @@
 -- times_most, factor_most, sum_most: how large they are
 -- times_fits, factor_fits, sum_fits: 64 bits hold them
 -- product_kept: a product that 64 bits hold, as the program forms it
+-- short_between, tiny_between: a bound by two comparisons
+-- shortened_fits, shortened_is: a number of 128 bits in 64
 -- common_is, common_most, common_fits, common_kept: the same of a greatest common divisor
-use Rattle.std.proofs.Common.{◌≡◌, ℕ, ◌+◌, ◌*◌, ◌^◌, ◌<◌, ◌≤◌, arith, ℤ, pos, ◌+ℤ◌, ◌*ℤ◌, lit≤, le_trans, mul-le-mul, le_refl, ap, ◌∙◌, to_z, of_z}
-use Rattle.std.specs.Prelude.{FitsSigned}
+use Rattle.std.proofs.Common.{◌≡◌, ℕ, ◌+◌, ◌*◌, ◌^◌, ◌<◌, ◌≤◌, arith, ℤ, pos, ◌+ℤ◌, ◌*ℤ◌, lit≤, le_trans, mul-le-mul, le_refl, subst, sym, ap, ◌∙◌, to_z, of_z}
+use Rattle.std.specs.Prelude.{FitsSigned, negsuc, ◌<ℤ◌}
 use Rattle.std.proofs.lemmas.Int.{ints, fits_signed_from_abs, unsigned_abs-mul, to_z-of_z, to_z_pos}
-use Rattle.std.specs.Int.{w64}
+use Rattle.std.specs.Int.{w64, w128}
 use Rattle.std.specs.Int.RustNames.{unsigned_abs}
 use Rattle.cyclo24.specs.Gcd.{gcd}
 use Rattle.cyclo24.specs.GcdLaws.{gcd_below}
@@ -60,3 +62,18 @@ common_fits n h = below63 (pos n) (2 ^ 62) h (lit≤ tt)
 
 pub common_kept : (n : ℕ) → n ≤ 2 ^ 62 → to_z w64 n ≡ pos n
 common_kept n h = to_z_pos w64 n (omega (arith, h))
+
+pub short_between : (z : ℤ) → negsuc 268435455 <ℤ z → z <ℤ pos 268435456 → unsigned_abs z ≤ 2 ^ 28
+short_between z h k = omega (arith, ints)
+
+pub tiny_between : (z : ℤ) → negsuc 2047 <ℤ z → z <ℤ pos 2048 → unsigned_abs z ≤ 2 ^ 11
+tiny_between z h k = omega (arith, ints)
+
+kept128 : (z : ℤ) → unsigned_abs z ≤ 2 ^ 28 → to_z w128 (of_z w128 z) ≡ z
+kept128 z h = to_z-of_z w128 z (fits_signed_from_abs w128 z (omega (arith, h)))
+
+pub shortened_fits : (z : ℤ) → unsigned_abs z ≤ 2 ^ 28 → FitsSigned w64 (to_z w128 (of_z w128 z))
+shortened_fits z h = subst (λ (y : ℤ). FitsSigned w64 y) (sym (kept128 z h)) (below63 z (2 ^ 28) h (lit≤ tt))
+
+pub shortened_is : (z : ℤ) → unsigned_abs z ≤ 2 ^ 28 → in64 (to_z w128 (of_z w128 z)) ≡ z
+shortened_is z h = ap in64 (kept128 z h) ∙ to_z-of_z w64 z (below63 z (2 ^ 28) h (lit≤ tt))

@@ -138,28 +138,26 @@ impl Field for K24 {
     }
 
     fn add(self, other: K24) -> Result<K24, Wide> {
-        let sum = self.fraction.sum(Whole { n: 1 }, other.fraction)?;
+        let sum = self.fraction.written_sum(Whole { n: 1 }, other.fraction)?;
         Ok(K24 {
             fraction: sum.reduced(),
         })
     }
 
     fn sub(self, other: K24) -> Result<K24, Wide> {
-        let difference = self.fraction.sum(Whole { n: -1 }, other.fraction)?;
+        let difference = self.fraction.written_sum(Whole { n: -1 }, other.fraction)?;
         Ok(K24 {
             fraction: difference.reduced(),
         })
     }
 
     fn mul(self, other: K24) -> Result<K24, Wide> {
-        let product = self.fraction.product(other.fraction)?;
-        Ok(K24 {
-            fraction: product.reduced(),
-        })
+        let fraction = self.fraction.product(other.fraction)?;
+        Ok(K24 { fraction })
     }
 
     fn inv(self) -> Result<K24, Wide> {
-        let inverse = self.fraction.inverse()?;
+        let inverse = self.fraction.written_inverse()?;
         Ok(K24 {
             fraction: inverse.upright().reduced(),
         })

@@ -10,6 +10,7 @@ mod fraction4;
 mod fraction8;
 mod k24;
 mod laws;
+mod lowest4;
 mod powers;
 mod print;
 mod short4;

@@ -1,7 +1,7 @@
 use Rattle.std.proofs.Common.{rules, sym}
 use Rattle.cyclo24.specs.Written4.{product, fraction}
 use Rattle.cyclo24.specs.CheckedLaws.{then_ok, then_err, answer_give}
-use Rattle.cyclo24.proofs.fraction4.Fraction4.product.Goals as goal
+use Rattle.cyclo24.proofs.fraction4.Fraction4.written_product.Goals as goal
 
 pub returns-in_err-a0 : goal.returns-in_err-a0
 unfolding product fraction
@@ -21,8 +21,8 @@ returns-in_err-a3 c = then_ok _ _ c.product0.ensures c.in_ok-a0.was (then_ok _ _
 
 pub returns-in_err-d : goal.returns-in_err-d
 unfolding product fraction
-returns-in_err-d c = then_ok _ _ c.product0.ensures c.in_ok-a0.was (then_ok _ _ c.product1.ensures c.in_ok-a1.was (then_ok _ _ c.product2.ensures c.in_ok-a2.was (then_ok _ _ c.product3.ensures c.in_ok-a3.was (then_err _ _ c.product_of_two.ensures c.in_err-d.was (search rules)))))
+returns-in_err-d c = then_ok _ _ c.product0.ensures c.in_ok-a0.was (then_ok _ _ c.product1.ensures c.in_ok-a1.was (then_ok _ _ c.product2.ensures c.in_ok-a2.was (then_ok _ _ c.product3.ensures c.in_ok-a3.was (then_err _ _ c.times.ensures c.in_err-d.was (search rules)))))
 
 pub returns : goal.returns
 unfolding product fraction
-returns c = then_ok _ _ c.product0.ensures c.in_ok-a0.was (then_ok _ _ c.product1.ensures c.in_ok-a1.was (then_ok _ _ c.product2.ensures c.in_ok-a2.was (then_ok _ _ c.product3.ensures c.in_ok-a3.was (then_ok _ _ c.product_of_two.ensures c.in_ok-d.was (sym (answer_give _))))))
+returns c = then_ok _ _ c.product0.ensures c.in_ok-a0.was (then_ok _ _ c.product1.ensures c.in_ok-a1.was (then_ok _ _ c.product2.ensures c.in_ok-a2.was (then_ok _ _ c.product3.ensures c.in_ok-a3.was (then_ok _ _ c.times.ensures c.in_ok-d.was (sym (answer_give _))))))
