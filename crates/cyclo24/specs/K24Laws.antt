@@ -1,5 +1,6 @@
 -- What the calls on values of Q(sqrt 2, sqrt 3) give.
 --
+-- low_positive, size_positive: what a number in lowest terms says
 -- product24, sum24, difference24, inverse24: what is reduced is the exact result
 -- negated24, zero24, one24: the other operations
 use Rattle.std.proofs.Common.{◌≡◌, ◌≢◌, ◌<◌, ◌*◌, ◌/◌, ℕ, refl, sym, ap, ◌∙◌, subst, arith, rules, ℤ, pos, negsuc, neg_ℤ, ◌+ℤ◌, ◌*ℤ◌, [], ◌∷◌, map, Bool, true, false, Ok, le_trans, lit≤}
@@ -47,27 +48,7 @@ made_low r x e = ap (is_exact 4) e ∙ x.1
 pub made_value : (r : Fraction4) (x : Exact24) → numbers4 r ≡ x.0 → (h : IsLow r) → exact_of r h ≡ x
 made_value r x e h = same_exact (exact_of r h) x e
 
-product_positive : (x y : ℤ) → is_positive x ≡ true → is_positive y ≡ true → is_positive (x *ℤ y) ≡ true
-product_positive (pos m) (pos n) h k = by_parts m n (positive_abs (pos m) h).0 (positive_abs (pos n) k).0
-  where
-    mul_above : (m n : ℕ) → 0 < m → 0 < n → 0 < m * n
-    mul_above m n p q = grind arith
-
-    positive_pos : (n : ℕ) → 0 < n → is_positive (pos n) ≡ true
-    positive_pos n h = search rules
-
-    by_parts : (m n : ℕ) → 0 < m → 0 < n → is_positive (pos m *ℤ pos n) ≡ true
-    by_parts m n p q = positive_pos (m * n) (mul_above m n p q)
-product_positive (pos m) (negsuc n) h k = absurd (cc)
-product_positive (negsuc m) y h k = absurd (cc)
-
 -- products
-
-pub product_ready : (a b r : Fraction4) → IsLow a → IsLow b → answer (product a b) ≡ Ok r → IsNarrow4 r × (is_positive r.d.n ≡ true)
-product_ready a b r h k e =
-    let f = answer_ok (product a b) r e in
-    let d : r.d.n ≡ a.d.n *ℤ b.d.n = ap (λ (s : Fraction4). s.d.n) (sym f.1) ∙ (product_value a b).1 in
-    (subst IsNarrow4 f.1 (product_narrow a b f.0), ap is_positive d ∙ product_positive a.d.n b.d.n (low_positive a h) (low_positive b k))
 
 pub product24 : (a b r s : Fraction4) (h : IsLow a) (k : IsLow b) → answer (product a b) ≡ Ok r → numbers4 s ≡ lowest_terms (numerators4 r) (unsigned_abs r.d.n) → numbers4 s ≡ (k24_laws.times (exact_of a h) (exact_of b k)).0
 product24 a b r s h k e q =
@@ -92,17 +73,6 @@ over_gcd c a b = unsigned_abs c.d.n / gcd (unsigned_abs a.d.n) (unsigned_abs b.d
 quotient_upright : (z : ℤ) (g : ℕ) → is_positive z ≡ true → quotient z g ≡ pos (unsigned_abs z / g)
 quotient_upright (pos n) g h = refl
 quotient_upright (negsuc n) g h = absurd (cc)
-
-pub sum_ready : (f : Whole) (a b r : Fraction4) → IsLow a → IsLow b → answer (sum f a b) ≡ Ok r → IsNarrow4 r × (is_positive r.d.n ≡ true)
-sum_ready f a b r h k e =
-    let g = gcd (unsigned_abs a.d.n) (unsigned_abs b.d.n) in
-    let q : Whole = record { n = quotient b.d.n g } in
-    let p : Whole = record { n = quotient a.d.n g } in
-    let t = answer_ok (sum f a b) r e in
-    let d : r.d.n ≡ a.d.n *ℤ quotient b.d.n g = ap (λ (s : Fraction4). s.d.n) (sym t.1) ∙ (sum_value f a q b p).1 in (
-      subst IsNarrow4 t.1 (sum_narrow f a q b p t.0),
-      ap is_positive d ∙ product_positive a.d.n (quotient b.d.n g) (low_positive a h) (quotient_positive b.d.n g (low_positive b k) (gcd_is (unsigned_abs a.d.n) (unsigned_abs b.d.n)).1),
-    )
 
 -- the numerators and the denominator of a sum
 sum_parts : (f : Whole) (a b r : Fraction4) → IsLow a → IsLow b → answer (sum f a b) ≡ Ok r → let q = pos (over_gcd b a b) in let p = pos (over_gcd a a b) in let c : ℤ → ℤ → ℤ = λ x y. q *ℤ x +ℤ f.n *ℤ (p *ℤ y) in
@@ -198,13 +168,8 @@ upright_by r (negsuc n) e d x f =
       ap (λ (s : Fraction4). unsigned_abs s.d.n) c ∙ abs_neg r.d.n ∙ ap unsigned_abs e,
     )
 
-upright_narrow : (r : Fraction4) → IsNarrow4 r → IsNarrow4 (upright r)
-upright_narrow r h = by_test (λ b. IsNarrow4 (cond b (record { d = minus r.d; a0 = minus r.a0; a1 = minus r.a1; a2 = minus r.a2; a3 = minus r.a3 }) r)) (int_lt r.d.n (pos 0))
-    (λ _. record { narrow0 = neg_narrow r.a0.n h.narrow0; narrow1 = neg_narrow r.a1.n h.narrow1; narrow2 = neg_narrow r.a2.n h.narrow2; narrow3 = neg_narrow r.a3.n h.narrow3; narrow = neg_narrow r.d.n h.narrow })
-    (λ _. h)
-
 -- a number that isn't 0 has a norm that isn't 0
-size_positive : (a : Fraction4) (h : IsLow a) → k24_laws.is_nought (exact_of a h) ≡ false → 0 < unsigned_abs (norm4 whole (four_of a))
+pub size_positive : (a : Fraction4) (h : IsLow a) → k24_laws.is_nought (exact_of a h) ≡ false → 0 < unsigned_abs (norm4 whole (four_of a))
 size_positive a h e = positive_unless (unsigned_abs (norm4 whole (four_of a))) (λ z. apart (all_zero (numerators4 a)) (zero_all (four_of a) (norm_zero (four_of a) z)) (is_zero24 a h ∙ e))
   where
     positive_unless : (n : ℕ) → n ≢ 0 → 0 < n
@@ -215,25 +180,6 @@ size_positive a h e = positive_unless (unsigned_abs (norm4 whole (four_of a))) (
 
     zero_all : (x : Four ℤ) → x ≡ num4 whole (pos 0) → all_zero (list4 x) ≡ true
     zero_all x e = ap (λ y. all_zero (list4 y)) e
-
-upright_positive : (z : ℤ) → 0 < unsigned_abs z → is_positive (cond (int_lt z (pos 0)) (neg_ℤ z) z) ≡ true
-upright_positive (pos n) h = search rules
-upright_positive (negsuc n) h = search rules
-
-pub inverse_answered : (a r : Fraction4) → answer (inverse a) ≡ Ok r → IsNarrow4 r
-inverse_answered a r e = let f = answer_ok (inverse a) r e in subst IsNarrow4 f.1 (inverse_narrow a f.0)
-
-pub inverse_ready : (a r s : Fraction4) (h : IsLow a) → k24_laws.is_nought (exact_of a h) ≡ false → answer (inverse a) ≡ Ok r → s ≡ upright r → IsNarrow4 s × (is_positive s.d.n ≡ true)
-inverse_ready a r s h z e u =
-    let f = answer_ok (inverse a) r e in
-    let n : r.d.n ≡ norm4 whole (four_of a) = ap (λ (s : Fraction4). s.d.n) (sym f.1) ∙ (inverse_value a).1 in
-    let positive : 0 < unsigned_abs r.d.n = subst (λ z. 0 < unsigned_abs z) (sym n) (size_positive a h z) in
-    (subst IsNarrow4 (sym u) (upright_narrow r (subst IsNarrow4 f.1 (inverse_narrow a f.0))), ap (λ (s : Fraction4). is_positive s.d.n) u ∙ upright_low r positive)
-  where
-    upright_low : (r : Fraction4) → 0 < unsigned_abs r.d.n → is_positive (upright r).d.n ≡ true
-    upright_low r h = by_test (λ b. int_lt r.d.n (pos 0) ≡ b → is_positive (cond b (record { d = minus r.d; a0 = minus r.a0; a1 = minus r.a1; a2 = minus r.a2; a3 = minus r.a3 }) r).d.n ≡ true) (int_lt r.d.n (pos 0))
-        (λ e _. ap (λ b. is_positive (cond b (neg_ℤ r.d.n) r.d.n)) (sym e) ∙ upright_positive r.d.n h)
-        (λ e _. ap (λ b. is_positive (cond b (neg_ℤ r.d.n) r.d.n)) (sym e) ∙ upright_positive r.d.n h) refl
 
 pub inverse24 : (a r u s : Fraction4) (h : IsLow a) → k24_laws.is_nought (exact_of a h) ≡ false → answer (inverse a) ≡ Ok r → u ≡ upright r → numbers4 s ≡ lowest_terms (numerators4 u) (unsigned_abs u.d.n)
     → numbers4 s ≡ (k24_laws.inverse (exact_of a h)).0

@@ -5,6 +5,7 @@ ghost use Rattle.cyclo24.specs.Listed.{is_exact};
 
 use crate::fraction4::Fraction4;
 use crate::print::push_multiple;
+use crate::small::Small;
 use crate::whole::Whole;
 use crate::{Field, Wide};
 use iso_text::{NoMemory, Text};
@@ -138,17 +139,13 @@ impl Field for K24 {
     }
 
     fn add(self, other: K24) -> Result<K24, Wide> {
-        let sum = self.fraction.written_sum(Whole { n: 1 }, other.fraction)?;
-        Ok(K24 {
-            fraction: sum.reduced(),
-        })
+        let fraction = self.fraction.sum(Small { n: 1 }, other.fraction)?;
+        Ok(K24 { fraction })
     }
 
     fn sub(self, other: K24) -> Result<K24, Wide> {
-        let difference = self.fraction.written_sum(Whole { n: -1 }, other.fraction)?;
-        Ok(K24 {
-            fraction: difference.reduced(),
-        })
+        let fraction = self.fraction.sum(Small { n: -1 }, other.fraction)?;
+        Ok(K24 { fraction })
     }
 
     fn mul(self, other: K24) -> Result<K24, Wide> {
@@ -157,10 +154,8 @@ impl Field for K24 {
     }
 
     fn inv(self) -> Result<K24, Wide> {
-        let inverse = self.fraction.written_inverse()?;
-        Ok(K24 {
-            fraction: inverse.upright().reduced(),
-        })
+        let fraction = self.fraction.inverse()?;
+        Ok(K24 { fraction })
     }
 
     ghost value_cmp = { exact24_cmp };
