@@ -67,3 +67,6 @@ pub mod SmallLaws
 pub mod Short4Laws
 pub mod Lowest4
 pub mod Lowest4Laws
+pub mod Short8
+pub mod Short8Laws
+pub mod Lowest8

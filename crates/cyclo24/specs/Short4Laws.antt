@@ -1,6 +1,7 @@
 -- What is computed on four numerators over a denominator in 64 bits.
 --
 -- lowest_by_one, lowest_over_one: numbers that nothing divides, or over 1, are in lowest terms
+-- gcd_of_zero, zero_over: of 0
 -- rational_narrow, lowest-rational: a rational number in lowest terms
 use Rattle.std.proofs.Common.{◌≡◌, ◌<◌, ◌/◌, ◌%◌, ℕ, arith, ap, ◌∙◌, sym, ℤ, pos, [], ◌∷◌, ◌++◌, List, lit≤, Bool, true, false, subst, lit<}
 use Rattle.std.specs.Int.RustNames.{unsigned_abs}
@@ -33,13 +34,13 @@ lowest_over_one xs numbers d h n =
     let e : d ≡ pos 1 = (signed_Decides d (pos 1)).0 h in
     n ∙ ap (λ z. xs ++ z ∷ []) e ∙ sym (lowest-one xs) ∙ ap (λ z. lowest_terms xs (unsigned_abs z)) (sym e)
 
-gcd_of_zero : (d : ℕ) → gcd 0 d ≡ d
+pub gcd_of_zero : (d : ℕ) → gcd 0 d ≡ d
 gcd_of_zero d = let z : 0 % d ≡ 0 = omega arith in sym (gcd_step 0 d) ∙ gcd_zero d (0 % d) z
 
 common-rational : (n : ℤ) (d : ℕ) → common (rational n) d ≡ gcd (unsigned_abs n) d
 common-rational n d = ap (λ k. gcd (unsigned_abs n) (gcd 0 (gcd 0 k))) (gcd_of_zero d) ∙ ap (λ k. gcd (unsigned_abs n) (gcd 0 k)) (gcd_of_zero d) ∙ ap (gcd (unsigned_abs n)) (gcd_of_zero d)
 
-zero_over : (g : ℕ) → 0 / g ≡ 0
+pub zero_over : (g : ℕ) → 0 / g ≡ 0
 zero_over g = omega arith
 
 -- a fraction in lowest terms, by the quotients of its numbers

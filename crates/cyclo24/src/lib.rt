@@ -14,6 +14,7 @@ mod lowest4;
 mod powers;
 mod print;
 mod short4;
+mod short8;
 mod small;
 mod terms;
 mod whole;

@@ -78,6 +78,17 @@ impl Small {
         }
     }
 
+    /// x + y z.
+    pub(crate) fn plus_product(self, y: Small, z: Small) -> Small
+        requires left { unsigned_abs self.n ≤ 2 ^ 60 }
+        requires y { unsigned_abs y.n ≤ 2 ^ 28 }
+        requires z { unsigned_abs z.n ≤ 2 ^ 28 }
+        ensures value { result ≡ record { n = self.n +ℤ y.n *ℤ z.n } }
+        ensures most { unsigned_abs result.n ≤ unsigned_abs self.n + 2 ^ 56 }
+    {
+        self.plus(y.times(z))
+    }
+
     /// The greatest common divisor.
     pub(crate) fn common(self, other: Small) -> Small
         requires left { unsigned_abs self.n ≤ 2 ^ 62 }
