@@ -5,14 +5,18 @@
 -- product_kept: a product that 64 bits hold, as the program forms it
 -- short_between, tiny_between: a bound by two comparisons
 -- shortened_fits, shortened_is: a number of 128 bits in 64
+-- gcd_one: 1 has no divisor but 1
 -- common_is, common_most, common_fits, common_kept: the same of a greatest common divisor
-use Rattle.std.proofs.Common.{◌≡◌, ℕ, ◌+◌, ◌*◌, ◌^◌, ◌<◌, ◌≤◌, arith, ℤ, pos, ◌+ℤ◌, ◌*ℤ◌, lit≤, le_trans, mul-le-mul, le_refl, subst, sym, ap, ◌∙◌, to_z, of_z}
+use Rattle.std.proofs.Common.{◌≡◌, ℕ, true, ◌+◌, ◌*◌, ◌^◌, ◌<◌, ◌≤◌, arith, ℤ, pos, ◌+ℤ◌, ◌*ℤ◌, lit≤, le_trans, mul-le-mul, le_refl, subst, sym, ap, ◌∙◌, to_z, of_z}
 use Rattle.std.specs.Prelude.{FitsSigned, negsuc, ◌<ℤ◌}
 use Rattle.std.proofs.lemmas.Int.{ints, fits_signed_from_abs, unsigned_abs-mul, to_z-of_z, to_z_pos}
 use Rattle.std.specs.Int.{w64, w128}
 use Rattle.std.specs.Int.RustNames.{unsigned_abs}
+use Rattle.std.specs.Ordering.{int_eq}
+use Rattle.std.specs.Cmp.{signed_Decides}
+use Rattle.std.proofs.Math.Nat.{eq-one_of_dvd-one}
 use Rattle.cyclo24.specs.Gcd.{gcd}
-use Rattle.cyclo24.specs.GcdLaws.{gcd_below}
+use Rattle.cyclo24.specs.GcdLaws.{gcd_is, gcd_below}
 
 pub times_most : (x y : ℤ) → unsigned_abs x ≤ 2 ^ 28 → unsigned_abs y ≤ 2 ^ 28 → unsigned_abs (x *ℤ y) ≤ 2 ^ 56
 times_most x y h k =
@@ -77,3 +81,10 @@ shortened_fits z h = subst (λ (y : ℤ). FitsSigned w64 y) (sym (kept128 z h)) 
 
 pub shortened_is : (z : ℤ) → unsigned_abs z ≤ 2 ^ 28 → in64 (to_z w128 (of_z w128 z)) ≡ z
 shortened_is z h = ap in64 (kept128 z h) ∙ to_z-of_z w64 z (below63 z (2 ^ 28) h (lit≤ tt))
+
+-- 1 has no divisor but 1
+pub gcd_one : (a : ℕ) (x y : ℤ) → int_eq y (pos 1) ≡ true → y ≡ pos (gcd a (unsigned_abs y))
+gcd_one a x y h =
+    let e : y ≡ pos 1 = (signed_Decides y (pos 1)).0 h in
+    let one : gcd a 1 ≡ 1 = eq-one_of_dvd-one (gcd_is a 1).1 in
+    e ∙ ap pos (sym one) ∙ ap (λ z. pos (gcd a (unsigned_abs z))) (sym e)

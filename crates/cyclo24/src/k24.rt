@@ -139,17 +139,17 @@ impl Field for K24 {
     }
 
     fn add(self, other: K24) -> Result<K24, Wide> {
-        let fraction = self.fraction.sum(Small { n: 1 }, other.fraction)?;
+        let fraction = self.fraction.sum(Small { n: 1 }, &other.fraction)?;
         Ok(K24 { fraction })
     }
 
     fn sub(self, other: K24) -> Result<K24, Wide> {
-        let fraction = self.fraction.sum(Small { n: -1 }, other.fraction)?;
+        let fraction = self.fraction.sum(Small { n: -1 }, &other.fraction)?;
         Ok(K24 { fraction })
     }
 
     fn mul(self, other: K24) -> Result<K24, Wide> {
-        let fraction = self.fraction.product(other.fraction)?;
+        let fraction = self.fraction.product(&other.fraction)?;
         Ok(K24 { fraction })
     }
 

@@ -16,12 +16,12 @@ use crate::short4::{Short4, joined, lowest_rational};
 use crate::small::Small;
 
 // The product of rational numbers.
-fn rational_product(a: Fraction4, b: Fraction4) -> Fraction4
-    requires rational { IsRational4 a }
-    requires rational_other { IsRational4 b }
-    requires positive { is_positive a.d.n ≡ true }
-    requires positive_other { is_positive b.d.n ≡ true }
-    ensures { IsAnswered4 (product a b).written (numerators4 (product a b).value) (unsigned_abs (product a b).value.d.n) result }
+fn rational_product(a: &Fraction4, b: &Fraction4) -> Fraction4
+    requires rational { IsRational4 a.now }
+    requires rational_other { IsRational4 b.now }
+    requires positive { is_positive a.now.d.n ≡ true }
+    requires positive_other { is_positive b.now.d.n ≡ true }
+    ensures { IsAnswered4 (product a.now b.now).written (numerators4 (product a.now b.now).value) (unsigned_abs (product a.now b.now).value.d.n) result }
 {
     let n = a.a0.shortened().times(b.a0.shortened());
     let d = a.d.shortened().times(b.d.shortened());
@@ -29,12 +29,12 @@ fn rational_product(a: Fraction4, b: Fraction4) -> Fraction4
 }
 
 // The product of short numbers.
-fn short_product(a: Fraction4, b: Fraction4) -> Fraction4
-    requires short { IsWithin4 (2 ^ 28) (short_of a) }
-    requires short_other { IsWithin4 (2 ^ 28) (short_of b) }
-    requires positive { is_positive a.d.n ≡ true }
-    requires positive_other { is_positive b.d.n ≡ true }
-    ensures { IsAnswered4 (product a b).written (numerators4 (product a b).value) (unsigned_abs (product a b).value.d.n) result }
+fn short_product(a: &Fraction4, b: &Fraction4) -> Fraction4
+    requires short { IsWithin4 (2 ^ 28) (short_of a.now) }
+    requires short_other { IsWithin4 (2 ^ 28) (short_of b.now) }
+    requires positive { is_positive a.now.d.n ≡ true }
+    requires positive_other { is_positive b.now.d.n ≡ true }
+    ensures { IsAnswered4 (product a.now b.now).written (numerators4 (product a.now b.now).value) (unsigned_abs (product a.now b.now).value.d.n) result }
 {
     a.short().product(b.short()).lowest()
 }
@@ -42,24 +42,24 @@ fn short_product(a: Fraction4, b: Fraction4) -> Fraction4
 // The product of any numbers.
 #[cold]
 #[inline(never)]
-fn long_product(a: Fraction4, b: Fraction4) -> Result<Fraction4, Wide>
-    requires positive { is_positive a.d.n ≡ true }
-    requires positive_other { is_positive b.d.n ≡ true }
-    ensures ok { IfOk result (λ s. IsAnswered4 (product a b).written (numerators4 (product a b).value) (unsigned_abs (product a b).value.d.n) s) }
-    ensures wide { IfErr result (λ _. any_wide (product a b).written ≡ true) }
+fn long_product(a: &Fraction4, b: &Fraction4) -> Result<Fraction4, Wide>
+    requires positive { is_positive a.now.d.n ≡ true }
+    requires positive_other { is_positive b.now.d.n ≡ true }
+    ensures ok { IfOk result (λ s. IsAnswered4 (product a.now b.now).written (numerators4 (product a.now b.now).value) (unsigned_abs (product a.now b.now).value.d.n) s) }
+    ensures wide { IfErr result (λ _. any_wide (product a.now b.now).written ≡ true) }
 {
-    let product = a.written_product(b)?;
+    let product = a.written_product(*b)?;
     Ok(product.reduced())
 }
 
 // The sum of rational numbers, with a small factor at the second.
-fn rational_sum(factor: Small, a: Fraction4, b: Fraction4) -> Fraction4
+fn rational_sum(factor: Small, a: &Fraction4, b: &Fraction4) -> Fraction4
     requires factor { unsigned_abs factor.n ≤ 8 }
-    requires rational { IsRational4 a }
-    requires rational_other { IsRational4 b }
-    requires positive { is_positive a.d.n ≡ true }
-    requires positive_other { is_positive b.d.n ≡ true }
-    ensures { IsAnswered4 (sum (record { n = factor.n }) a b).written (numerators4 (sum (record { n = factor.n }) a b).value) (unsigned_abs (sum (record { n = factor.n }) a b).value.d.n) result }
+    requires rational { IsRational4 a.now }
+    requires rational_other { IsRational4 b.now }
+    requires positive { is_positive a.now.d.n ≡ true }
+    requires positive_other { is_positive b.now.d.n ≡ true }
+    ensures { IsAnswered4 (sum (record { n = factor.n }) a.now b.now).written (numerators4 (sum (record { n = factor.n }) a.now b.now).value) (unsigned_abs (sum (record { n = factor.n }) a.now b.now).value.d.n) result }
 {
     let d = a.d.shortened();
     let e = b.d.shortened();
@@ -71,13 +71,13 @@ fn rational_sum(factor: Small, a: Fraction4, b: Fraction4) -> Fraction4
 }
 
 // The sum of short numbers, with a small factor at the second.
-fn short_sum(factor: Small, a: Fraction4, b: Fraction4) -> Fraction4
+fn short_sum(factor: Small, a: &Fraction4, b: &Fraction4) -> Fraction4
     requires factor { unsigned_abs factor.n ≤ 8 }
-    requires short { IsWithin4 (2 ^ 28) (short_of a) }
-    requires short_other { IsWithin4 (2 ^ 28) (short_of b) }
-    requires positive { is_positive a.d.n ≡ true }
-    requires positive_other { is_positive b.d.n ≡ true }
-    ensures { IsAnswered4 (sum (record { n = factor.n }) a b).written (numerators4 (sum (record { n = factor.n }) a b).value) (unsigned_abs (sum (record { n = factor.n }) a b).value.d.n) result }
+    requires short { IsWithin4 (2 ^ 28) (short_of a.now) }
+    requires short_other { IsWithin4 (2 ^ 28) (short_of b.now) }
+    requires positive { is_positive a.now.d.n ≡ true }
+    requires positive_other { is_positive b.now.d.n ≡ true }
+    ensures { IsAnswered4 (sum (record { n = factor.n }) a.now b.now).written (numerators4 (sum (record { n = factor.n }) a.now b.now).value) (unsigned_abs (sum (record { n = factor.n }) a.now b.now).value.d.n) result }
 {
     a.short().sum(factor, b.short()).lowest()
 }
@@ -85,25 +85,25 @@ fn short_sum(factor: Small, a: Fraction4, b: Fraction4) -> Fraction4
 // The sum of any numbers, with a small factor at the second.
 #[cold]
 #[inline(never)]
-fn long_sum(factor: Small, a: Fraction4, b: Fraction4) -> Result<Fraction4, Wide>
+fn long_sum(factor: Small, a: &Fraction4, b: &Fraction4) -> Result<Fraction4, Wide>
     requires factor { unsigned_abs factor.n ≤ 8 }
-    requires narrow { IsNarrow4 a }
-    requires narrow_other { IsNarrow4 b }
-    requires positive { is_positive a.d.n ≡ true }
-    requires positive_other { is_positive b.d.n ≡ true }
-    ensures ok { IfOk result (λ s. IsAnswered4 (sum (record { n = factor.n }) a b).written (numerators4 (sum (record { n = factor.n }) a b).value) (unsigned_abs (sum (record { n = factor.n }) a b).value.d.n) s) }
-    ensures wide { IfErr result (λ _. any_wide (sum (record { n = factor.n }) a b).written ≡ true) }
+    requires narrow { IsNarrow4 a.now }
+    requires narrow_other { IsNarrow4 b.now }
+    requires positive { is_positive a.now.d.n ≡ true }
+    requires positive_other { is_positive b.now.d.n ≡ true }
+    ensures ok { IfOk result (λ s. IsAnswered4 (sum (record { n = factor.n }) a.now b.now).written (numerators4 (sum (record { n = factor.n }) a.now b.now).value) (unsigned_abs (sum (record { n = factor.n }) a.now b.now).value.d.n) s) }
+    ensures wide { IfErr result (λ _. any_wide (sum (record { n = factor.n }) a.now b.now).written ≡ true) }
 {
-    let sum = a.written_sum(factor.widened(), b)?;
+    let sum = a.written_sum(factor.widened(), *b)?;
     Ok(sum.reduced())
 }
 
 // The inverse of a tiny number.
-fn short_inverse(a: Fraction4) -> Fraction4
-    requires tiny { IsWithin4 (2 ^ 11) (short_of a) }
-    requires positive { is_positive a.d.n ≡ true }
-    requires nonzero { 0 < unsigned_abs (norm4 whole (four_of (short_of a))) }
-    ensures { IsAnswered4 (inverse a).written (numerators4 (upright (inverse a).value)) (unsigned_abs (upright (inverse a).value).d.n) result }
+fn short_inverse(a: &Fraction4) -> Fraction4
+    requires tiny { IsWithin4 (2 ^ 11) (short_of a.now) }
+    requires positive { is_positive a.now.d.n ≡ true }
+    requires nonzero { 0 < unsigned_abs (norm4 whole (four_of (short_of a.now))) }
+    ensures { IsAnswered4 (inverse a.now).written (numerators4 (upright (inverse a.now).value)) (unsigned_abs (upright (inverse a.now).value).d.n) result }
 {
     a.short().inverse().upright().lowest()
 }
@@ -111,11 +111,11 @@ fn short_inverse(a: Fraction4) -> Fraction4
 // The inverse of any number.
 #[cold]
 #[inline(never)]
-fn long_inverse(a: Fraction4) -> Result<Fraction4, Wide>
-    requires positive { is_positive a.d.n ≡ true }
-    requires nonzero { 0 < unsigned_abs (norm4 whole (four_of (short_of a))) }
-    ensures ok { IfOk result (λ s. IsAnswered4 (inverse a).written (numerators4 (upright (inverse a).value)) (unsigned_abs (upright (inverse a).value).d.n) s) }
-    ensures wide { IfErr result (λ _. any_wide (inverse a).written ≡ true) }
+fn long_inverse(a: &Fraction4) -> Result<Fraction4, Wide>
+    requires positive { is_positive a.now.d.n ≡ true }
+    requires nonzero { 0 < unsigned_abs (norm4 whole (four_of (short_of a.now))) }
+    ensures ok { IfOk result (λ s. IsAnswered4 (inverse a.now).written (numerators4 (upright (inverse a.now).value)) (unsigned_abs (upright (inverse a.now).value).d.n) s) }
+    ensures wide { IfErr result (λ _. any_wide (inverse a.now).written ≡ true) }
 {
     let inverse = a.written_inverse()?;
     Ok(inverse.upright().reduced())
@@ -123,8 +123,8 @@ fn long_inverse(a: Fraction4) -> Result<Fraction4, Wide>
 
 impl Fraction4 {
     // Whether all its numbers are short.
-    fn is_short(self) -> bool
-        ensures { result ≡ true → IsWithin4 (2 ^ 28) (short_of self) }
+    fn is_short(&self) -> bool
+        ensures { result ≡ true → IsWithin4 (2 ^ 28) (short_of self.now) }
     {
         self.d.is_short()
             && (self.a0.is_short()
@@ -132,8 +132,8 @@ impl Fraction4 {
     }
 
     // Whether all its numbers are tiny.
-    fn is_tiny(self) -> bool
-        ensures { result ≡ true → IsWithin4 (2 ^ 11) (short_of self) }
+    fn is_tiny(&self) -> bool
+        ensures { result ≡ true → IsWithin4 (2 ^ 11) (short_of self.now) }
     {
         self.d.is_tiny()
             && (self.a0.is_tiny()
@@ -141,8 +141,8 @@ impl Fraction4 {
     }
 
     // Whether it is a rational number of short parts.
-    fn is_rational(self) -> bool
-        ensures { result ≡ true → IsRational4 self }
+    fn is_rational(&self) -> bool
+        ensures { result ≡ true → IsRational4 self.now }
     {
         self.a1.is_zero()
             && (self.a2.is_zero()
@@ -150,9 +150,9 @@ impl Fraction4 {
     }
 
     // The number in 64 bits.
-    fn short(self) -> Short4
-        requires { IsWithin4 (2 ^ 28) (short_of self) }
-        ensures { result ≡ short_of self }
+    fn short(&self) -> Short4
+        requires { IsWithin4 (2 ^ 28) (short_of self.now) }
+        ensures { result ≡ short_of self.now }
     {
         Short4 {
             d: self.d.shortened(),
@@ -164,11 +164,11 @@ impl Fraction4 {
     }
 
     /// The product in lowest terms.
-    pub(crate) fn product(self, other: Fraction4) -> Result<Fraction4, Wide>
-        requires positive { is_positive self.d.n ≡ true }
-        requires positive_other { is_positive other.d.n ≡ true }
-        ensures ok { IfOk result (λ s. IsAnswered4 (product self other).written (numerators4 (product self other).value) (unsigned_abs (product self other).value.d.n) s) }
-        ensures wide { IfErr result (λ _. any_wide (product self other).written ≡ true) }
+    pub(crate) fn product(&self, other: &Fraction4) -> Result<Fraction4, Wide>
+        requires positive { is_positive self.now.d.n ≡ true }
+        requires positive_other { is_positive other.now.d.n ≡ true }
+        ensures ok { IfOk result (λ s. IsAnswered4 (product self.now other.now).written (numerators4 (product self.now other.now).value) (unsigned_abs (product self.now other.now).value.d.n) s) }
+        ensures wide { IfErr result (λ _. any_wide (product self.now other.now).written ≡ true) }
     {
         if self.is_rational() && other.is_rational() {
             Ok(rational_product(self, other))
@@ -180,14 +180,14 @@ impl Fraction4 {
     }
 
     /// The sum with a multiple of the other number by a small factor, in lowest terms.
-    pub(crate) fn sum(self, factor: Small, other: Fraction4) -> Result<Fraction4, Wide>
+    pub(crate) fn sum(&self, factor: Small, other: &Fraction4) -> Result<Fraction4, Wide>
         requires factor { unsigned_abs factor.n ≤ 8 }
-        requires narrow { IsNarrow4 self }
-        requires narrow_other { IsNarrow4 other }
-        requires positive { is_positive self.d.n ≡ true }
-        requires positive_other { is_positive other.d.n ≡ true }
-        ensures ok { IfOk result (λ s. IsAnswered4 (sum (record { n = factor.n }) self other).written (numerators4 (sum (record { n = factor.n }) self other).value) (unsigned_abs (sum (record { n = factor.n }) self other).value.d.n) s) }
-        ensures wide { IfErr result (λ _. any_wide (sum (record { n = factor.n }) self other).written ≡ true) }
+        requires narrow { IsNarrow4 self.now }
+        requires narrow_other { IsNarrow4 other.now }
+        requires positive { is_positive self.now.d.n ≡ true }
+        requires positive_other { is_positive other.now.d.n ≡ true }
+        ensures ok { IfOk result (λ s. IsAnswered4 (sum (record { n = factor.n }) self.now other.now).written (numerators4 (sum (record { n = factor.n }) self.now other.now).value) (unsigned_abs (sum (record { n = factor.n }) self.now other.now).value.d.n) s) }
+        ensures wide { IfErr result (λ _. any_wide (sum (record { n = factor.n }) self.now other.now).written ≡ true) }
     {
         if self.is_rational() && other.is_rational() {
             Ok(rational_sum(factor, self, other))
@@ -199,11 +199,11 @@ impl Fraction4 {
     }
 
     /// The inverse of a number that isn't 0, in lowest terms.
-    pub(crate) fn inverse(self) -> Result<Fraction4, Wide>
-        requires positive { is_positive self.d.n ≡ true }
-        requires nonzero { 0 < unsigned_abs (norm4 whole (four_of (short_of self))) }
-        ensures ok { IfOk result (λ s. IsAnswered4 (inverse self).written (numerators4 (upright (inverse self).value)) (unsigned_abs (upright (inverse self).value).d.n) s) }
-        ensures wide { IfErr result (λ _. any_wide (inverse self).written ≡ true) }
+    pub(crate) fn inverse(&self) -> Result<Fraction4, Wide>
+        requires positive { is_positive self.now.d.n ≡ true }
+        requires nonzero { 0 < unsigned_abs (norm4 whole (four_of (short_of self.now))) }
+        ensures ok { IfOk result (λ s. IsAnswered4 (inverse self.now).written (numerators4 (upright (inverse self.now).value)) (unsigned_abs (upright (inverse self.now).value).d.n) s) }
+        ensures wide { IfErr result (λ _. any_wide (inverse self.now).written ≡ true) }
     {
         if self.is_tiny() {
             Ok(short_inverse(self))

@@ -5,7 +5,7 @@ ghost use Rattle.std.specs.Ordering.{int_eq};
 ghost use Rattle.cyclo24.specs.Gcd.{gcd, quotient};
 ghost use Rattle.cyclo24.specs.Checked.{is_wide};
 
-use crate::whole::{Whole, short_euclid};
+use crate::whole::{Whole, short_common};
 
 /// A whole number of 64 bits.
 #[derive(Clone, Copy, Debug)]
@@ -97,8 +97,11 @@ impl Small {
         ensures positive { 0 < unsigned_abs other.n → 0 < unsigned_abs result.n }
         ensures most { unsigned_abs result.n ≤ 2 ^ 62 }
     {
+        if other.is_one() {
+            return other;
+        }
         Small {
-            n: short_euclid(self.n.unsigned_abs(), other.n.unsigned_abs()) as i64,
+            n: short_common(self.n.unsigned_abs(), other.n.unsigned_abs()) as i64,
         }
     }
 
@@ -109,6 +112,9 @@ impl Small {
         ensures value { result ≡ record { n = quotient self.n (unsigned_abs divisor.n) } }
         ensures most { unsigned_abs result.n ≤ unsigned_abs self.n }
     {
+        if divisor.is_one() {
+            return self;
+        }
         Small {
             n: self.n / divisor.n,
         }

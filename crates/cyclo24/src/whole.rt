@@ -11,6 +11,9 @@ use crate::small::Small;
 /// The least absolute value that isn't written.
 const LEAST_WIDE: u128 = 1 << 126;
 
+/// The least number that 32 bits don't hold.
+const LEAST_ABOVE_32: u64 = 1 << 32;
+
 /// The least number that 64 bits don't hold.
 const LEAST_LONG: u128 = 1 << 64;
 
@@ -37,9 +40,35 @@ fn narrow(x: i128) -> Result<Whole, Wide>
     }
 }
 
+// The greatest common divisor of numbers of 32 bits, by Euclid's algorithm.
+#[tactic(auto, using(crate::specs::GcdLaws::gcd_step, crate::specs::GcdLaws::gcd_zero))]
+fn tiny_euclid(a: u32, b: u32) -> u32
+    ensures { result ≡ gcd a b }
+{
+    let mut x = a;
+    let mut y = b;
+    while y != 0 {
+        let rest = x % y;
+        x = y;
+        y = rest;
+    }
+    x
+}
+
+/// The greatest common divisor, in 32 bits where both numbers are so short.
+pub(crate) fn short_common(a: u64, b: u64) -> u64
+    ensures { result ≡ gcd a b }
+{
+    if a < LEAST_ABOVE_32 && b < LEAST_ABOVE_32 {
+        tiny_euclid(a as u32, b as u32) as u64
+    } else {
+        short_euclid(a, b)
+    }
+}
+
 // The greatest common divisor of numbers of 64 bits, by Euclid's algorithm.
 #[tactic(auto, using(crate::specs::GcdLaws::gcd_step, crate::specs::GcdLaws::gcd_zero))]
-pub(crate) fn short_euclid(a: u64, b: u64) -> u64
+fn short_euclid(a: u64, b: u64) -> u64
     ensures { result ≡ gcd a b }
 {
     let mut x = a;
@@ -57,7 +86,7 @@ fn greatest_common(a: u128, b: u128) -> u128
     ensures { result ≡ gcd a b }
 {
     if a < LEAST_LONG && b < LEAST_LONG {
-        short_euclid(a as u64, b as u64) as u128
+        short_common(a as u64, b as u64) as u128
     } else {
         euclid(a, b)
     }

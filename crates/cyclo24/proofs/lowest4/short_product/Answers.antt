@@ -13,10 +13,10 @@ use Rattle.cyclo24.proofs.lowest4.short_product.Goals as goal
 pub lowest-requires-clause-positive : goal.lowest-requires-clause-positive
 lowest-requires-clause-positive c =
     ap is_positive (ap (λ (w : Small). w.n) c.product.ensures.low ∙ (λ i. (c.short.ensures i).d.n *ℤ (c.short-2.ensures i).d.n))
-    ∙ product_positive c.args.a.d.n c.args.b.d.n c.requires.positive c.requires.positive_other
+    ∙ product_positive c.args.a.now.d.n c.args.b.now.d.n c.requires.positive c.requires.positive_other
 
 pub returns : goal.returns
-returns c = product_answered c.args.a c.args.b c.lowest.result c.product.result c.requires.short c.requires.short_other
+returns c = product_answered c.args.a.now c.args.b.now c.lowest.result c.product.result c.requires.short c.requires.short_other
     (ap list4 (c.product.ensures.value ∙ (λ i. mul4 whole (four_of (c.short.ensures i)) (four_of (c.short-2.ensures i)))))
     (ap (λ (w : Small). w.n) c.product.ensures.low ∙ (λ i. (c.short.ensures i).d.n *ℤ (c.short-2.ensures i).d.n))
     c.lowest.ensures.lowest c.lowest.ensures.narrow
