@@ -70,3 +70,5 @@ pub mod Lowest4Laws
 pub mod Short8
 pub mod Short8Laws
 pub mod Lowest8
+pub mod Lowest8Laws
+pub mod DotLaws

@@ -2,6 +2,7 @@
 --
 -- answered_by: what is reduced is the answer; answered_ok: an answer is no refusal
 -- product_positive, product_ready, sum_ready, inverse_answered, inverse_ready: what is asked before reducing
+-- times_zero: by 0
 -- rational_within: a rational number of short parts is short
 -- product_answered, rational_product_answered, sum_answered, rational_sum_answered, inverse_short: the short ways
 use Rattle.std.proofs.Common.{◌≡◌, ◌<◌, ◌≤◌, ◌*◌, ◌+◌, ◌^◌, ◌/◌, ℕ, refl, sym, ap, ◌∙◌, subst, arith, rules, ℤ, pos, negsuc, neg_ℤ, ◌+ℤ◌, ◌*ℤ◌, List, [], ◌∷◌, Bool, true, false, Ok, lit≤, le_trans, get_or}
@@ -174,7 +175,7 @@ rational_within a h = record { d = h.d; a0 = h.a0; a1 = zero_within a.a1.n h.a1;
 four_of-rational : (a : Fraction4) → IsRational4 a → four_of a ≡ num4 whole a.a0.n
 four_of-rational a h = λ i. record { c0 = a.a0.n; c1 = h.a1 i; c2 = h.a2 i; c3 = h.a3 i }
 
-times_zero : (z : ℤ) → z *ℤ pos 0 ≡ pos 0
+pub times_zero : (z : ℤ) → z *ℤ pos 0 ≡ pos 0
 times_zero z = omega (arith, ints)
 
 products-rational : (a b : Fraction4) → IsRational4 a → IsRational4 b → rational (a.a0.n *ℤ b.a0.n) ≡ list4 (mul4 whole (four_of a) (four_of b))

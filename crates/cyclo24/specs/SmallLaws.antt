@@ -83,8 +83,8 @@ pub shortened_is : (z : ℤ) → unsigned_abs z ≤ 2 ^ 28 → in64 (to_z w128 (
 shortened_is z h = ap in64 (kept128 z h) ∙ to_z-of_z w64 z (below63 z (2 ^ 28) h (lit≤ tt))
 
 -- 1 has no divisor but 1
-pub gcd_one : (a : ℕ) (x y : ℤ) → int_eq y (pos 1) ≡ true → y ≡ pos (gcd a (unsigned_abs y))
-gcd_one a x y h =
+pub gcd_one : (a : ℕ) (y : ℤ) → int_eq y (pos 1) ≡ true → y ≡ pos (gcd a (unsigned_abs y))
+gcd_one a y h =
     let e : y ≡ pos 1 = (signed_Decides y (pos 1)).0 h in
     let one : gcd a 1 ≡ 1 = eq-one_of_dvd-one (gcd_is a 1).1 in
     e ∙ ap pos (sym one) ∙ ap (λ z. pos (gcd a (unsigned_abs z))) (sym e)

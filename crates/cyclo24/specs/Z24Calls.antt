@@ -83,12 +83,6 @@ product_positive (negsuc m) y h k = absurd (cc)
 
 -- products
 
-pub product_ready8 : (a b r : Fraction8) → IsLow8 a → IsLow8 b → answer (product a b) ≡ Ok r → IsNarrow8 r × (is_positive r.d.n ≡ true)
-product_ready8 a b r h k e =
-    let f = answer_ok (product a b) r e in
-    let d : r.d.n ≡ a.d.n *ℤ b.d.n = ap (λ (s : Fraction8). s.d.n) (sym f.1) ∙ (product_value a b).1 in
-    (subst IsNarrow8 f.1 (product_narrow a b f.0), ap is_positive d ∙ product_positive a.d.n b.d.n (low_positive8 a h) (low_positive8 b k))
-
 pub product_z24 : (a b r s : Fraction8) (h : IsLow8 a) (k : IsLow8 b) → answer (product a b) ≡ Ok r → numbers8 s ≡ lowest_terms (numerators8 r) (unsigned_abs r.d.n)
     → numbers8 s ≡ (z24_laws.times (exact_of8 a h) (exact_of8 b k)).0
 product_z24 a b r s h k e q =
@@ -107,17 +101,6 @@ over_gcd c a b = unsigned_abs c.d.n / gcd (unsigned_abs a.d.n) (unsigned_abs b.d
 quotient_upright : (z : ℤ) (g : ℕ) → is_positive z ≡ true → quotient z g ≡ pos (unsigned_abs z / g)
 quotient_upright (pos n) g h = refl
 quotient_upright (negsuc n) g h = absurd (cc)
-
-pub sum_ready8 : (a b r : Fraction8) → IsLow8 a → IsLow8 b → answer (sum a b) ≡ Ok r → IsNarrow8 r × (is_positive r.d.n ≡ true)
-sum_ready8 a b r h k e =
-    let g = gcd (unsigned_abs a.d.n) (unsigned_abs b.d.n) in
-    let q = num (quotient b.d.n g) in
-    let p = num (quotient a.d.n g) in
-    let t = answer_ok (sum a b) r e in
-    let d : r.d.n ≡ a.d.n *ℤ quotient b.d.n g = ap (λ (s : Fraction8). s.d.n) (sym t.1) ∙ (sum_value a q b p).1 in (
-      subst IsNarrow8 t.1 (sum_narrow a q b p t.0),
-      ap is_positive d ∙ product_positive a.d.n (quotient b.d.n g) (low_positive8 a h) (quotient_positive b.d.n g (low_positive8 b k) (gcd_is (unsigned_abs a.d.n) (unsigned_abs b.d.n)).1),
-    )
 
 pub sum_z24 : (a b r s : Fraction8) (h : IsLow8 a) (k : IsLow8 b) → answer (sum a b) ≡ Ok r → numbers8 s ≡ lowest_terms (numerators8 r) (unsigned_abs r.d.n) → numbers8 s ≡ (z24_laws.plus (exact_of8 a h) (exact_of8 b k)).0
 sum_z24 a b r s h k e l =

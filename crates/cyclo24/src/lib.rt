@@ -11,6 +11,7 @@ mod fraction8;
 mod k24;
 mod laws;
 mod lowest4;
+mod lowest8;
 mod powers;
 mod print;
 mod short4;

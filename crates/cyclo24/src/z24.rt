@@ -75,25 +75,18 @@ impl Field for Z24 {
     }
 
     fn add(self, other: Z24) -> Result<Z24, Wide> {
-        let sum = self.fraction.sum(other.fraction)?;
-        Ok(Z24 {
-            fraction: sum.reduced(),
-        })
+        let fraction = self.fraction.sum(&other.fraction)?;
+        Ok(Z24 { fraction })
     }
 
     fn sub(self, other: Z24) -> Result<Z24, Wide> {
-        let negative = other.fraction.negated();
-        let difference = self.fraction.sum(negative)?;
-        Ok(Z24 {
-            fraction: difference.reduced(),
-        })
+        let negative = other.neg();
+        self.add(negative)
     }
 
     fn mul(self, other: Z24) -> Result<Z24, Wide> {
-        let product = self.fraction.product(other.fraction)?;
-        Ok(Z24 {
-            fraction: product.reduced(),
-        })
+        let fraction = self.fraction.product(&other.fraction)?;
+        Ok(Z24 { fraction })
     }
 
     /// The conjugate times the inverse of the squared absolute value.

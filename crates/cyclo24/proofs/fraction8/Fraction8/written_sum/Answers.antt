@@ -1,7 +1,7 @@
 use Rattle.std.proofs.Common.{◌∙◌}
 use Rattle.cyclo24.specs.ListedLaws.{positive_abs}
 use Rattle.cyclo24.specs.Written8Laws.{sum_by}
-use Rattle.cyclo24.proofs.fraction8.Fraction8.sum.Goals as goal
+use Rattle.cyclo24.proofs.fraction8.Fraction8.written_sum.Goals as goal
 
 pub divided-p-requires-clause-positive : goal.divided-p-requires-clause-positive
 divided-p-requires-clause-positive c = c.common-common.ensures.positive (positive_abs c.args.other.d.n c.requires.positive).0

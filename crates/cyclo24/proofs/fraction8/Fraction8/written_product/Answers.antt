@@ -1,7 +1,7 @@
 use Rattle.std.proofs.Common.{rules}
 use Rattle.cyclo24.specs.Written8.{product}
 use Rattle.cyclo24.specs.CheckedLaws.{then_ok, then_err}
-use Rattle.cyclo24.proofs.fraction8.Fraction8.product.Goals as goal
+use Rattle.cyclo24.proofs.fraction8.Fraction8.written_product.Goals as goal
 
 pub returns-in_err-high : goal.returns-in_err-high
 unfolding product
