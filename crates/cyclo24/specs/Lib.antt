@@ -72,3 +72,4 @@ pub mod Short8Laws
 pub mod Lowest8
 pub mod Lowest8Laws
 pub mod DotLaws
+pub mod SmallNumbers

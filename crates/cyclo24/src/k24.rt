@@ -128,6 +128,18 @@ impl Field for K24 {
         }
     }
 
+    fn small(n: i8) -> K24 {
+        K24 {
+            fraction: Fraction4 {
+                d: Whole { n: 1 },
+                a0: Whole::byte(n),
+                a1: Whole { n: 0 },
+                a2: Whole { n: 0 },
+                a3: Whole { n: 0 },
+            },
+        }
+    }
+
     fn is_zero(self) -> bool {
         self.fraction.is_zero()
     }

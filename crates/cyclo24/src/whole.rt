@@ -108,6 +108,14 @@ fn euclid(a: u128, b: u128) -> u128
 }
 
 impl Whole {
+    /// A number of 8 bits.
+    pub(crate) fn byte(n: i8) -> Whole
+        ensures value { result ≡ record { n = n } }
+        ensures narrow { is_wide result.n ≡ false }
+    {
+        Whole { n: n as i128 }
+    }
+
     /// A number of 64 bits.
     pub(crate) fn small(n: i64) -> Whole
         ensures value { result ≡ record { n = n } }

@@ -64,6 +64,22 @@ impl Field for Z24 {
         }
     }
 
+    fn small(n: i8) -> Z24 {
+        Z24 {
+            fraction: Fraction8 {
+                d: Whole { n: 1 },
+                c0: Whole::byte(n),
+                c1: Whole { n: 0 },
+                c2: Whole { n: 0 },
+                c3: Whole { n: 0 },
+                c4: Whole { n: 0 },
+                c5: Whole { n: 0 },
+                c6: Whole { n: 0 },
+                c7: Whole { n: 0 },
+            },
+        }
+    }
+
     fn is_zero(self) -> bool {
         self.fraction.is_zero()
     }
