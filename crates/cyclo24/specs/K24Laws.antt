@@ -50,12 +50,11 @@ made_value r x e h = same_exact (exact_of r h) x e
 
 -- products
 
-pub product24 : (a b r s : Fraction4) (h : IsLow a) (k : IsLow b) → answer (product a b) ≡ Ok r → numbers4 s ≡ lowest_terms (numerators4 r) (unsigned_abs r.d.n) → numbers4 s ≡ (k24_laws.times (exact_of a h) (exact_of b k)).0
+pub product24 : (a b r s : Fraction4) (h : IsLow a) (k : IsLow b) → (product a b).value ≡ r → numbers4 s ≡ lowest_terms (numerators4 r) (unsigned_abs r.d.n) → numbers4 s ≡ (k24_laws.times (exact_of a h) (exact_of b k)).0
 product24 a b r s h k e q =
-    let f = answer_ok (product a b) r e in
     let v = product_value a b in
-    let n : numerators4 r ≡ list4 (mul4 whole (four_of a) (four_of b)) = ap numerators4 (sym f.1) ∙ v.0 in
-    let d : unsigned_abs r.d.n ≡ unsigned_abs a.d.n * unsigned_abs b.d.n = ap (λ (s : Fraction4). unsigned_abs s.d.n) (sym f.1) ∙ ap unsigned_abs v.1 ∙ unsigned_abs-mul a.d.n b.d.n in
+    let n : numerators4 r ≡ list4 (mul4 whole (four_of a) (four_of b)) = ap numerators4 (sym e) ∙ v.0 in
+    let d : unsigned_abs r.d.n ≡ unsigned_abs a.d.n * unsigned_abs b.d.n = ap (λ (s : Fraction4). unsigned_abs s.d.n) (sym e) ∙ ap unsigned_abs v.1 ∙ unsigned_abs-mul a.d.n b.d.n in
     q ∙ (λ i. lowest_terms (n i) (d i)) ∙ sym (times-is whole4 four four_is (exact_of a h) (exact_of b k))
 
 -- sums
@@ -75,22 +74,21 @@ quotient_upright (pos n) g h = refl
 quotient_upright (negsuc n) g h = absurd (cc)
 
 -- the numerators and the denominator of a sum
-sum_parts : (f : Whole) (a b r : Fraction4) → IsLow a → IsLow b → answer (sum f a b) ≡ Ok r → let q = pos (over_gcd b a b) in let p = pos (over_gcd a a b) in let c : ℤ → ℤ → ℤ = λ x y. q *ℤ x +ℤ f.n *ℤ (p *ℤ y) in
+sum_parts : (f : Whole) (a b r : Fraction4) → IsLow a → IsLow b → (sum f a b).value ≡ r → let q = pos (over_gcd b a b) in let p = pos (over_gcd a a b) in let c : ℤ → ℤ → ℤ = λ x y. q *ℤ x +ℤ f.n *ℤ (p *ℤ y) in
     (numerators4 r ≡ c a.a0.n b.a0.n ∷ c a.a1.n b.a1.n ∷ c a.a2.n b.a2.n ∷ c a.a3.n b.a3.n ∷ []) × (unsigned_abs r.d.n ≡ unsigned_abs a.d.n * over_gcd b a b)
 sum_parts f a b r h k e =
     let g = gcd (unsigned_abs a.d.n) (unsigned_abs b.d.n) in
     let q : Whole = record { n = quotient b.d.n g } in
     let p : Whole = record { n = quotient a.d.n g } in
-    let t = answer_ok (sum f a b) r e in
     let v = sum_value f a q b p in
     let qe = quotient_upright b.d.n g (low_positive b k) in
     let pe = quotient_upright a.d.n g (low_positive a h) in (
-      ap numerators4 (sym t.1) ∙ v.0
+      ap numerators4 (sym e) ∙ v.0
           ∙ (λ i. (qe i *ℤ a.a0.n +ℤ f.n *ℤ (pe i *ℤ b.a0.n)) ∷ (qe i *ℤ a.a1.n +ℤ f.n *ℤ (pe i *ℤ b.a1.n)) ∷ (qe i *ℤ a.a2.n +ℤ f.n *ℤ (pe i *ℤ b.a2.n)) ∷ (qe i *ℤ a.a3.n +ℤ f.n *ℤ (pe i *ℤ b.a3.n)) ∷ []),
-      ap (λ (s : Fraction4). unsigned_abs s.d.n) (sym t.1) ∙ ap unsigned_abs v.1 ∙ ap (λ z. unsigned_abs (a.d.n *ℤ z)) qe ∙ unsigned_abs-mul a.d.n (pos (over_gcd b a b)),
+      ap (λ (s : Fraction4). unsigned_abs s.d.n) (sym e) ∙ ap unsigned_abs v.1 ∙ ap (λ z. unsigned_abs (a.d.n *ℤ z)) qe ∙ unsigned_abs-mul a.d.n (pos (over_gcd b a b)),
     )
 
-pub sum24 : (a b r s : Fraction4) (h : IsLow a) (k : IsLow b) → answer (sum (record { n = pos 1 }) a b) ≡ Ok r → numbers4 s ≡ lowest_terms (numerators4 r) (unsigned_abs r.d.n) → numbers4 s ≡ (k24_laws.plus (exact_of a h) (exact_of b k)).0
+pub sum24 : (a b r s : Fraction4) (h : IsLow a) (k : IsLow b) → (sum (record { n = pos 1 }) a b).value ≡ r → numbers4 s ≡ lowest_terms (numerators4 r) (unsigned_abs r.d.n) → numbers4 s ≡ (k24_laws.plus (exact_of a h) (exact_of b k)).0
 sum24 a b r s h k e l =
     let v = sum_parts one_whole a b r h k e in
     let q = pos (over_gcd b a b) in let p = pos (over_gcd a a b) in
@@ -100,13 +98,13 @@ sum24 a b r s h k e l =
     ∙ sym (plus-is whole4 four four_is (exact_of a h) (exact_of b k))
 
 -- the negative of an exact value as a list
-neg_parts : (b : Fraction4) (k : IsLow b) → (k24_laws.neg (exact_of b k)).0 ≡ numbers4 (negated b)
+pub neg_parts : (b : Fraction4) (k : IsLow b) → (k24_laws.neg (exact_of b k)).0 ≡ numbers4 (negated b)
 neg_parts b k = neg-is whole4 four four_is (exact_of b k) ∙ neg-list whole4 four four_is (exact_of b k)
 
 minus_times : (p y : ℤ) → negsuc 0 *ℤ (p *ℤ y) ≡ p *ℤ neg_ℤ y
 minus_times p y = let e : negsuc 0 *ℤ (p *ℤ y) ≡ neg_ℤ (p *ℤ y) = omega (arith, ints) in e ∙ sym (mul_neg whole whole_ring p y)
 
-pub difference24 : (a b r s : Fraction4) (h : IsLow a) (k : IsLow b) → answer (sum (record { n = negsuc 0 }) a b) ≡ Ok r → numbers4 s ≡ lowest_terms (numerators4 r) (unsigned_abs r.d.n)
+pub difference24 : (a b r s : Fraction4) (h : IsLow a) (k : IsLow b) → (sum (record { n = negsuc 0 }) a b).value ≡ r → numbers4 s ≡ lowest_terms (numerators4 r) (unsigned_abs r.d.n)
     → numbers4 s ≡ (k24_laws.plus (exact_of a h) (k24_laws.neg (exact_of b k))).0
 difference24 a b r s h k e l =
     let v = sum_parts minus_one a b r h k e in
@@ -181,14 +179,13 @@ size_positive a h e = positive_unless (unsigned_abs (norm4 whole (four_of a))) (
     zero_all : (x : Four ℤ) → x ≡ num4 whole (pos 0) → all_zero (list4 x) ≡ true
     zero_all x e = ap (λ y. all_zero (list4 y)) e
 
-pub inverse24 : (a r u s : Fraction4) (h : IsLow a) → k24_laws.is_nought (exact_of a h) ≡ false → answer (inverse a) ≡ Ok r → u ≡ upright r → numbers4 s ≡ lowest_terms (numerators4 u) (unsigned_abs u.d.n)
+pub inverse24 : (a r u s : Fraction4) (h : IsLow a) → k24_laws.is_nought (exact_of a h) ≡ false → (inverse a).value ≡ r → u ≡ upright r → numbers4 s ≡ lowest_terms (numerators4 u) (unsigned_abs u.d.n)
     → numbers4 s ≡ (k24_laws.inverse (exact_of a h)).0
 inverse24 a r u s h z e w l =
-    let f = answer_ok (inverse a) r e in
     let v = inverse_value a in
     let x = four_of a in
     let n = norm4 whole x in
-    let t = upright_by r n (ap (λ (s : Fraction4). s.d.n) (sym f.1) ∙ v.1) a.d.n (adj4 whole x) (ap numerators4 (sym f.1) ∙ v.0) in
+    let t = upright_by r n (ap (λ (s : Fraction4). s.d.n) (sym e) ∙ v.1) a.d.n (adj4 whole x) (ap numerators4 (sym e) ∙ v.0) in
     let up : a.d.n ≡ pos (unsigned_abs a.d.n) = (positive_abs a.d.n (low_positive a h)).1 in
     l ∙ ap (λ (y : Fraction4). lowest_terms (numerators4 y) (unsigned_abs y.d.n)) w
     ∙ (λ i. lowest_terms (t.0 i) (t.1 i))

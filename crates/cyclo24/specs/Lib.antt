@@ -73,3 +73,5 @@ pub mod Lowest8
 pub mod Lowest8Laws
 pub mod DotLaws
 pub mod SmallNumbers
+pub mod Coefficients
+pub mod CoefficientsLaws

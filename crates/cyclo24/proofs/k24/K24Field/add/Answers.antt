@@ -1,16 +1,14 @@
-use Rattle.std.proofs.Common.{rules, ◌≡◌, pos}
+use Rattle.std.proofs.Common.{rules, ◌≡◌, refl, pos}
 use Rattle.cyclo24.specs.declared.fraction4.Fraction4.{Fraction4}
 use Rattle.cyclo24.specs.ExactK24.{k24_laws}
 use Rattle.cyclo24.specs.Written4.{numbers4, sum}
-use Rattle.cyclo24.specs.Lowest4Laws.{IsAnswer, answered_ok}
-use Rattle.cyclo24.specs.Written4.{numerators4}
-use Rattle.std.specs.Int.RustNames.{unsigned_abs}
+use Rattle.cyclo24.specs.Lowest4Laws.{IsAnswer}
 use Rattle.cyclo24.specs.K24Laws.{exact_of, IsLow, made_low, made_value, low_positive, sum24}
 use Rattle.cyclo24.proofs.k24.K24Field.add.Goals as goal
 
 -- an answer is the exact result
 numbers : (a b s : Fraction4) (h : IsLow a) (k : IsLow b) → IsAnswer (sum (record { n = pos 1 }) a b) s → numbers4 s ≡ (k24_laws.plus (exact_of a h) (exact_of b k)).0
-numbers a b s h k e = sum24 a b (sum (record { n = pos 1 }) a b).value s h k (answered_ok (sum (record { n = pos 1 }) a b) (numerators4 (sum (record { n = pos 1 }) a b).value) (unsigned_abs (sum (record { n = pos 1 }) a b).value.d.n) s e) e.lowest
+numbers a b s h k e = sum24 a b (sum (record { n = pos 1 }) a b).value s h k refl e.lowest
 
 pub sum-requires-clause-positive : goal.sum-requires-clause-positive
 sum-requires-clause-positive c = low_positive c.args.self.fraction c.args.self.lowest

@@ -4,7 +4,6 @@ use Rattle.cyclo24.specs.declared.fraction4.Fraction4.{Fraction4}
 use Rattle.cyclo24.specs.ExactK24.{k24_laws}
 use Rattle.cyclo24.specs.Written4.{numbers4, numerators4, inverse, upright}
 use Rattle.cyclo24.specs.Lowest4.{IsAnswered4}
-use Rattle.cyclo24.specs.Lowest4Laws.{answered_ok}
 use Rattle.cyclo24.specs.K24Laws.{exact_of, IsLow, made_low, made_value, low_positive, size_positive, inverse24}
 use Rattle.cyclo24.proofs.k24.K24Field.inv.Goals as goal
 
@@ -12,7 +11,7 @@ use Rattle.cyclo24.proofs.k24.K24Field.inv.Goals as goal
 numbers : (a s : Fraction4) (h : IsLow a) → k24_laws.is_nought (exact_of a h) ≡ false → IsAnswered4 (inverse a).written (numerators4 (upright (inverse a).value)) (unsigned_abs (upright (inverse a).value).d.n) s → numbers4 s ≡ (k24_laws.inverse (exact_of a h)).0
 numbers a s h z e =
     let u = upright (inverse a).value in
-    inverse24 a (inverse a).value u s h z (answered_ok (inverse a) (numerators4 u) (unsigned_abs u.d.n) s e) refl e.lowest
+    inverse24 a (inverse a).value u s h z refl refl e.lowest
 
 pub inverse-requires-clause-positive : goal.inverse-requires-clause-positive
 inverse-requires-clause-positive c = low_positive c.args.self.fraction c.args.self.lowest

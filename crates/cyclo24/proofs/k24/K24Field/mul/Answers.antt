@@ -1,16 +1,14 @@
-use Rattle.std.proofs.Common.{rules, ◌≡◌}
+use Rattle.std.proofs.Common.{rules, ◌≡◌, refl}
 use Rattle.cyclo24.specs.declared.fraction4.Fraction4.{Fraction4}
 use Rattle.cyclo24.specs.ExactK24.{k24_laws}
 use Rattle.cyclo24.specs.Written4.{numbers4, product}
-use Rattle.cyclo24.specs.Lowest4Laws.{IsAnswer, answered_ok}
-use Rattle.cyclo24.specs.Written4.{numerators4}
-use Rattle.std.specs.Int.RustNames.{unsigned_abs}
+use Rattle.cyclo24.specs.Lowest4Laws.{IsAnswer}
 use Rattle.cyclo24.specs.K24Laws.{exact_of, IsLow, made_low, made_value, low_positive, product24}
 use Rattle.cyclo24.proofs.k24.K24Field.mul.Goals as goal
 
 -- an answer is the exact result
 numbers : (a b s : Fraction4) (h : IsLow a) (k : IsLow b) → IsAnswer (product a b) s → numbers4 s ≡ (k24_laws.times (exact_of a h) (exact_of b k)).0
-numbers a b s h k e = product24 a b (product a b).value s h k (answered_ok (product a b) (numerators4 (product a b).value) (unsigned_abs (product a b).value.d.n) s e) e.lowest
+numbers a b s h k e = product24 a b (product a b).value s h k refl e.lowest
 
 pub product-requires-clause-positive : goal.product-requires-clause-positive
 product-requires-clause-positive c = low_positive c.args.self.fraction c.args.self.lowest

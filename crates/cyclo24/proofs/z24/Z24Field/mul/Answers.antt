@@ -1,14 +1,14 @@
-use Rattle.std.proofs.Common.{rules, ◌≡◌}
+use Rattle.std.proofs.Common.{rules, ◌≡◌, refl}
 use Rattle.cyclo24.specs.declared.fraction8.Fraction8.{Fraction8}
 use Rattle.cyclo24.specs.ExactZ24.{z24_laws}
 use Rattle.cyclo24.specs.Written8.{numbers8, product}
-use Rattle.cyclo24.specs.Lowest8Laws.{IsAnswer, answered_ok}
+use Rattle.cyclo24.specs.Lowest8Laws.{IsAnswer}
 use Rattle.cyclo24.specs.Z24Calls.{IsLow8, exact_of8, low_positive8, made_low8, made_value8, wide_ok, product_z24}
 use Rattle.cyclo24.proofs.z24.Z24Field.mul.Goals as goal
 
 -- an answer is the exact result
 numbers : (a b s : Fraction8) (h : IsLow8 a) (k : IsLow8 b) → IsAnswer (product a b) s → numbers8 s ≡ (z24_laws.times (exact_of8 a h) (exact_of8 b k)).0
-numbers a b s h k e = product_z24 a b (product a b).value s h k (answered_ok (product a b) s e) e.lowest
+numbers a b s h k e = product_z24 a b (product a b).value s h k refl e.lowest
 
 pub product-requires-clause-positive : goal.product-requires-clause-positive
 product-requires-clause-positive c = low_positive8 c.args.self.fraction c.args.self.lowest
