@@ -4,11 +4,9 @@
 -- sum_formula, product_formula, negative_formula, inverse_formula: the operations of Q(sqrt 2, sqrt 3)
 -- sum_formula8, product_formula8, negative_formula8: those of the 24th cyclotomic field
 -- conj-power: the conjugate of a power
-use Rattle.std.proofs.Common.{◌≡◌, ◌<◌, ◌+◌, ◌*◌, ◌-◌, ◌%◌, ℕ, zero, suc, refl, sym, ap, ◌∙◌, arith, ℤ, pos, negsuc, ◌+ℤ◌, ◌*ℤ◌, List, [], ◌∷◌, ◌++◌, length, get_or, Bool, true, false, le_refl}
+use Rattle.std.proofs.Common.{◌≡◌, ◌+◌, ◌*◌, ◌-◌, ◌%◌, ℕ, zero, suc, refl, sym, ap, ◌∙◌, arith, ℤ, pos, ◌*ℤ◌, List, [], ◌∷◌, ◌++◌, length, get_or, false}
 use Rattle.std.specs.Int.RustNames.{unsigned_abs}
 use Rattle.std.proofs.lemmas.Int.{ints}
-use Rattle.cyclo24.specs.declared.fraction4.Fraction4.{Fraction4}
-use Rattle.cyclo24.specs.declared.fraction8.Fraction8.{Fraction8}
 use Rattle.cyclo24.specs.Ring.{Ops}
 use Rattle.cyclo24.specs.ExactField.{Exact}
 use Rattle.cyclo24.specs.Gcd.{lowest_terms}
@@ -16,7 +14,6 @@ use Rattle.cyclo24.specs.Numerators.{Numerators, IsNumerators}
 use Rattle.cyclo24.specs.CommonLaws.{over_one, lowest-one}
 use Rattle.cyclo24.specs.Listed.{numerators, denominator, is_exact}
 use Rattle.cyclo24.specs.ListedLaws.{exact_laws, exact_is, same_exact, join-last, length-front}
-use Rattle.cyclo24.specs.ExactLaws.{neg-is, neg-list}
 use Rattle.cyclo24.specs.ExactMaps.{exact_member, exact_member-is, exact_member-low, exact_member-plus, exact_member-times, exact_map-member}
 use Rattle.cyclo24.specs.WholeRing.{whole, whole_ring}
 use Rattle.cyclo24.specs.Four.{Four, add4, mul4, num4}
@@ -193,7 +190,6 @@ one7 = record { c0 = pos 0; c1 = pos 0; c2 = pos 0; c3 = pos 0; c4 = pos 0; c5 =
 unit7 : power8 7 ≡ one7
 unfolding mul8
 unit7 = refl
-
 
 in_eight : (g : ℕ → ℤ) → sum8 8 (λ j. times8 (g j) (power8 j)) ≡ record { c0 = g 0; c1 = g 1; c2 = g 2; c3 = g 3; c4 = g 4; c5 = g 5; c6 = g 6; c7 = g 7 }
 in_eight g =

@@ -7,7 +7,6 @@
 -- short_dot_all, less_two_all, and_one_all: the same of short numbers
 use Rattle.std.proofs.Common.{◌≡◌, ℕ, ◌+◌, ◌^◌, ◌<◌, ◌≤◌, arith, refl, ℤ, pos, negsuc, ◌+ℤ◌, ◌*ℤ◌, List, [], ◌∷◌, false, lit≤}
 use Rattle.std.specs.Int.RustNames.{unsigned_abs}
-use Rattle.std.proofs.lemmas.Int.{ints}
 use Rattle.cyclo24.specs.declared.whole.Whole.{Whole}
 use Rattle.cyclo24.specs.Checked.{any_wide, times, plus, then}
 use Rattle.cyclo24.specs.SmallLaws.{sum_most, times_most, factor_most}

@@ -3,7 +3,7 @@
 -- low_positive, size_positive: what a number in lowest terms says
 -- product24, sum24, difference24, inverse24: what is reduced is the exact result
 -- negated24, zero24, one24: the other operations
-use Rattle.std.proofs.Common.{◌≡◌, ◌≢◌, ◌<◌, ◌*◌, ◌/◌, ℕ, refl, sym, ap, ◌∙◌, subst, arith, rules, ℤ, pos, negsuc, neg_ℤ, ◌+ℤ◌, ◌*ℤ◌, [], ◌∷◌, map, Bool, true, false, Ok, le_trans, lit≤}
+use Rattle.std.proofs.Common.{◌≡◌, ◌≢◌, ◌<◌, ◌*◌, ◌/◌, ℕ, refl, sym, ap, ◌∙◌, subst, arith, rules, ℤ, pos, negsuc, neg_ℤ, ◌+ℤ◌, ◌*ℤ◌, [], ◌∷◌, map, Bool, true, false, le_trans, lit≤}
 use Rattle.std.specs.Prelude.{cond, int_lt}
 use Rattle.std.specs.Int.RustNames.{unsigned_abs}
 use Rattle.std.proofs.lemmas.Int.{ints, unsigned_abs-mul}
@@ -11,19 +11,17 @@ use Rattle.cyclo24.specs.declared.whole.Whole.{Whole}
 use Rattle.cyclo24.specs.declared.fraction4.Fraction4.{Fraction4}
 use Rattle.cyclo24.specs.Gcd.{gcd, quotient, lowest_terms, all_zero}
 use Rattle.cyclo24.specs.WholeRing.{whole, whole_ring}
-use Rattle.cyclo24.specs.Solve.{mul_neg, by_test}
-use Rattle.cyclo24.specs.GcdLaws.{gcd_is}
-use Rattle.cyclo24.specs.Written4Laws.{quotient_positive}
+use Rattle.cyclo24.specs.Solve.{mul_neg}
 use Rattle.cyclo24.specs.Four.{Four, mul4, norm4, adj4, num4}
 use Rattle.cyclo24.specs.FourLaws.{scaled}
 use Rattle.cyclo24.specs.FourNorm.{whole4, four, four_is, list4, by_sign, norm_zero}
 use Rattle.cyclo24.specs.Listed.{is_exact, is_positive}
 use Rattle.cyclo24.specs.ListedLaws.{exact_is, positive_abs, same_exact, is_nought-is}
 use Rattle.cyclo24.specs.ExactLaws.{plus-is, neg-is, neg-list, times-is, inverse-is, nought-is, unit-is}
-use Rattle.cyclo24.specs.Checked.{is_wide, answer}
-use Rattle.cyclo24.specs.CheckedLaws.{answer_ok, neg_narrow, below_wide}
+use Rattle.cyclo24.specs.Checked.{is_wide}
+use Rattle.cyclo24.specs.CheckedLaws.{neg_narrow, below_wide}
 use Rattle.cyclo24.specs.Written4.{numbers4, numerators4, four_of, IsNarrow4, sum, product, inverse, negated, upright, minus}
-use Rattle.cyclo24.specs.Written4Values.{product_value, sum_value, inverse_value, times4, product_narrow, sum_narrow, inverse_narrow}
+use Rattle.cyclo24.specs.Written4Values.{product_value, sum_value, inverse_value, times4}
 use Rattle.cyclo24.specs.ExactK24.{Exact24, k24_laws}
 
 -- in lowest terms over a denominator above 0

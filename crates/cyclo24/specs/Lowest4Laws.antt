@@ -5,7 +5,7 @@
 -- times_zero: by 0
 -- rational_within: a rational number of short parts is short
 -- product_answered, rational_product_answered, sum_answered, rational_sum_answered, inverse_short: the short ways
-use Rattle.std.proofs.Common.{◌≡◌, ◌<◌, ◌≤◌, ◌*◌, ◌+◌, ◌^◌, ◌/◌, ℕ, refl, sym, ap, ◌∙◌, subst, arith, rules, ℤ, pos, negsuc, neg_ℤ, ◌+ℤ◌, ◌*ℤ◌, List, [], ◌∷◌, Bool, true, false, Ok, lit≤, le_trans, get_or}
+use Rattle.std.proofs.Common.{◌≡◌, ◌<◌, ◌≤◌, ◌*◌, ◌^◌, ℕ, refl, sym, ap, ◌∙◌, subst, arith, rules, ℤ, pos, negsuc, neg_ℤ, ◌+ℤ◌, ◌*ℤ◌, List, [], ◌∷◌, true, false, Ok, lit≤, le_trans, get_or}
 use Rattle.std.specs.Prelude.{cond, int_lt}
 use Rattle.std.specs.Int.RustNames.{unsigned_abs}
 use Rattle.std.proofs.lemmas.Int.{ints}
@@ -21,13 +21,13 @@ use Rattle.cyclo24.specs.Solve.{by_test}
 use Rattle.cyclo24.specs.Four.{Four, mul4, num4, norm4, adj4}
 use Rattle.cyclo24.specs.Four as Fours
 use Rattle.cyclo24.specs.SmallLaws.{factor_most}
-use Rattle.cyclo24.specs.FourLaws.{scaled, same4}
+use Rattle.cyclo24.specs.FourLaws.{scaled}
 use Rattle.cyclo24.specs.FourNorm.{list4}
 use Rattle.cyclo24.specs.Listed.{is_positive}
 use Rattle.cyclo24.specs.ListedLaws.{positive_abs}
 use Rattle.cyclo24.specs.Checked.{Checked, answer, any_wide, then, give, times, sum_of, product_of}
 use Rattle.cyclo24.specs.CheckedLaws.{answer_ok, neg_narrow, quotient_below}
-use Rattle.cyclo24.specs.Short.{IsShortProduct, AreShort, none, more}
+use Rattle.cyclo24.specs.Short.{IsShortProduct, none, more}
 use Rattle.cyclo24.specs.ShortLaws.{then_all, times_narrow, written_all, short_narrow, short_most, narrow_answer}
 use Rattle.cyclo24.specs.Written4.{numbers4, numerators4, four_of, IsNarrow4, fraction, product0, product1, product2, product3, product, joined, sum_over, sum, norm_u, norm_v, norm, multiple, inverse_over, inverse, upright, minus}
 use Rattle.cyclo24.specs.Written4Laws.{quotient_positive}

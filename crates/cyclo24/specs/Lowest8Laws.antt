@@ -4,9 +4,8 @@
 -- product_ready, sum_ready: what is asked before reducing
 -- rational_within: a rational number of short parts is short
 -- product_answered, rational_product_answered, sum_answered, rational_sum_answered: the short ways
-use Rattle.std.proofs.Common.{◌≡◌, ◌<◌, ◌≤◌, ◌^◌, ℕ, refl, sym, ap, ◌∙◌, subst, arith, ℤ, pos, negsuc, ◌+ℤ◌, ◌*ℤ◌, List, [], ◌∷◌, true, false, Ok, lit≤, le_trans}
+use Rattle.std.proofs.Common.{◌≡◌, ◌≤◌, ◌^◌, refl, sym, ap, ◌∙◌, subst, ℤ, pos, negsuc, ◌+ℤ◌, ◌*ℤ◌, List, [], ◌∷◌, true, false, Ok, lit≤, le_trans}
 use Rattle.std.specs.Int.RustNames.{unsigned_abs}
-use Rattle.std.proofs.lemmas.Int.{ints}
 use Rattle.cyclo24.specs.declared.whole.Whole.{Whole}
 use Rattle.cyclo24.specs.declared.small.Small.{Small}
 use Rattle.cyclo24.specs.declared.short8.Short8.{Short8}
@@ -14,14 +13,14 @@ use Rattle.cyclo24.specs.declared.fraction8.Fraction8.{Fraction8}
 use Rattle.cyclo24.specs.declared.fraction8.High.{High}
 use Rattle.cyclo24.specs.Gcd.{gcd, quotient, lowest_terms}
 use Rattle.cyclo24.specs.WholeRing.{whole, whole_ring}
-use Rattle.cyclo24.specs.Eight.{Eight, mul8, num8}
+use Rattle.cyclo24.specs.Eight.{mul8, num8}
 use Rattle.cyclo24.specs.EightLaws.{scaled8}
 use Rattle.cyclo24.specs.EightNorm.{list8}
 use Rattle.cyclo24.specs.Listed.{is_positive}
-use Rattle.cyclo24.specs.Checked.{Checked, answer, any_wide, then, give, times}
+use Rattle.cyclo24.specs.Checked.{Checked, answer, any_wide, then}
 use Rattle.cyclo24.specs.CheckedLaws.{answer_ok, quotient_below}
 use Rattle.cyclo24.specs.ShortLaws.{then_all, times_narrow, narrow_answer}
-use Rattle.cyclo24.specs.DotLaws.{AllShort, short_dot_all, short_dot_most, less_two_all, and_one_all}
+use Rattle.cyclo24.specs.DotLaws.{short_dot_all, short_dot_most, less_two_all, and_one_all}
 use Rattle.cyclo24.specs.Written8.{numbers8, numerators8, eight_of, IsNarrow8, num, dot, fraction8, high_sums, low, product, joined, sum_over, sum}
 use Rattle.cyclo24.specs.Written8Values.{product_value, sum_value, product_narrow, sum_narrow}
 use Rattle.cyclo24.specs.Lowest4Laws.{product_positive, low_sum_positive, times_zero}

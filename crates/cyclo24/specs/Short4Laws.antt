@@ -3,11 +3,10 @@
 -- lowest_by_one, lowest_over_one: numbers that nothing divides, or over 1, are in lowest terms
 -- gcd_of_zero, zero_over: of 0
 -- rational_narrow, lowest-rational: a rational number in lowest terms
-use Rattle.std.proofs.Common.{◌≡◌, ◌<◌, ◌/◌, ◌%◌, ℕ, arith, ap, ◌∙◌, sym, ℤ, pos, [], ◌∷◌, ◌++◌, List, lit≤, Bool, true, false, subst, lit<}
+use Rattle.std.proofs.Common.{◌≡◌, ◌/◌, ◌%◌, ℕ, arith, ap, ◌∙◌, sym, ℤ, pos, [], ◌∷◌, ◌++◌, List, lit≤, true, false}
 use Rattle.std.specs.Int.RustNames.{unsigned_abs}
 use Rattle.cyclo24.specs.declared.whole.Whole.{Whole}
 use Rattle.cyclo24.specs.declared.small.Small.{Small}
-use Rattle.cyclo24.specs.declared.fraction4.Fraction4.{Fraction4}
 use Rattle.cyclo24.specs.Gcd.{gcd, common, quotient, lowest_terms}
 use Rattle.cyclo24.specs.GcdLaws.{gcd_zero, gcd_step}
 use Rattle.cyclo24.specs.CommonLaws.{over_one, lowest-one}
@@ -17,7 +16,7 @@ use Rattle.cyclo24.specs.Listed.{is_positive}
 use Rattle.cyclo24.specs.ListedLaws.{positive_abs}
 use Rattle.cyclo24.specs.Checked.{is_wide}
 use Rattle.cyclo24.specs.CheckedLaws.{below_wide}
-use Rattle.cyclo24.specs.Written4.{numbers4, IsNarrow4}
+use Rattle.cyclo24.specs.Written4.{IsNarrow4}
 use Rattle.cyclo24.specs.Short4.{rational}
 
 -- numbers that nothing divides

@@ -5,13 +5,12 @@ use Rattle.std.proofs.Common.{◌≡◌, ℕ, ◌/◌, ap, ◌∙◌, sym, ℤ, 
 use Rattle.std.specs.Int.RustNames.{unsigned_abs}
 use Rattle.cyclo24.specs.declared.whole.Whole.{Whole}
 use Rattle.cyclo24.specs.declared.small.Small.{Small}
-use Rattle.cyclo24.specs.declared.fraction8.Fraction8.{Fraction8}
 use Rattle.cyclo24.specs.Gcd.{gcd, common, quotient, lowest_terms}
 use Rattle.cyclo24.specs.Listed.{is_positive}
 use Rattle.cyclo24.specs.ListedLaws.{positive_abs}
 use Rattle.cyclo24.specs.Checked.{is_wide}
 use Rattle.cyclo24.specs.CheckedLaws.{below_wide}
-use Rattle.cyclo24.specs.Written8.{numbers8, IsNarrow8}
+use Rattle.cyclo24.specs.Written8.{IsNarrow8}
 use Rattle.cyclo24.specs.Short4Laws.{gcd_of_zero, zero_over}
 use Rattle.cyclo24.specs.Short8.{rational}
 

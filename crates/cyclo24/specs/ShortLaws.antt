@@ -3,7 +3,7 @@
 -- then_all, times_narrow, short_narrow: nothing wide is written
 -- narrow_answer: the answer of what writes nothing wide
 -- short_most: the size of a sum of short products
-use Rattle.std.proofs.Common.{◌≡◌, ℕ, ◌+◌, ◌*◌, ◌^◌, ◌<◌, ◌≤◌, Bool, false, arith, ℤ, pos, ◌+ℤ◌, ◌*ℤ◌, refl, lit≤, List, [], ◌∷◌, length, ap, ◌∙◌, sym, Ok, Err, cond}
+use Rattle.std.proofs.Common.{◌≡◌, ℕ, ◌+◌, ◌*◌, ◌^◌, ◌<◌, ◌≤◌, Bool, false, arith, ℤ, pos, ◌+ℤ◌, ◌*ℤ◌, refl, lit≤, List, [], ◌∷◌, length, ap, ◌∙◌, Ok, Err, cond}
 use Rattle.std.specs.Prelude.{◌||◌}
 use Rattle.std.specs.Int.RustNames.{unsigned_abs}
 use Rattle.cyclo24.specs.declared.whole.Whole.{Whole}
@@ -11,7 +11,7 @@ use Rattle.cyclo24.specs.declared.whole.Product.{Product}
 use Rattle.cyclo24.specs.Checked.{is_wide, any_wide, answer, Checked, then, written, times, plus, term, sum_from, sum_of}
 use Rattle.cyclo24.specs.CheckedLaws.{below_wide, any_wide-append}
 use Rattle.cyclo24.specs.SmallLaws.{times_most, factor_most, sum_most}
-use Rattle.cyclo24.specs.Short.{IsShortProduct, AreShort, none, more}
+use Rattle.cyclo24.specs.Short.{IsShortProduct, AreShort, more}
 
 or_false : (a b : Bool) → a ≡ false → b ≡ false → (a || b) ≡ false
 or_false a b e f = cc

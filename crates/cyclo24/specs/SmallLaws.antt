@@ -7,7 +7,7 @@
 -- shortened_fits, shortened_is: a number of 128 bits in 64
 -- gcd_one: 1 has no divisor but 1
 -- common_is, common_most, common_fits, common_kept: the same of a greatest common divisor
-use Rattle.std.proofs.Common.{◌≡◌, ℕ, true, ◌+◌, ◌*◌, ◌^◌, ◌<◌, ◌≤◌, arith, ℤ, pos, ◌+ℤ◌, ◌*ℤ◌, lit≤, le_trans, mul-le-mul, le_refl, subst, sym, ap, ◌∙◌, to_z, of_z}
+use Rattle.std.proofs.Common.{◌≡◌, ℕ, true, ◌+◌, ◌*◌, ◌^◌, ◌<◌, ◌≤◌, arith, ℤ, pos, ◌+ℤ◌, ◌*ℤ◌, lit≤, mul-le-mul, le_refl, subst, sym, ap, ◌∙◌, to_z, of_z}
 use Rattle.std.specs.Prelude.{FitsSigned, negsuc, ◌<ℤ◌}
 use Rattle.std.proofs.lemmas.Int.{ints, fits_signed_from_abs, unsigned_abs-mul, to_z-of_z, to_z_pos}
 use Rattle.std.specs.Int.{w64, w128}

@@ -2,10 +2,9 @@
 --
 -- byte_narrow, byte_passed: as the program passes them
 -- whole_list8: the whole number z is z, seven zeros, 1; whole_low8, whole_value8, whole_narrow8: as a fraction
-use Rattle.std.proofs.Common.{◌≡◌, suc, sym, ap, ◌∙◌, arith, lit≤, le_trans, ℤ, pos, negsuc, List, [], ◌∷◌, false, ◌^◌, ◌≤◌, to_z, of_z}
+use Rattle.std.proofs.Common.{◌≡◌, suc, sym, ap, ◌∙◌, arith, lit≤, le_trans, ℤ, pos, negsuc, [], ◌∷◌, false, to_z, of_z}
 use Rattle.std.specs.Prelude.{FitsSigned}
 use Rattle.std.specs.Int.{w8, w128}
-use Rattle.std.specs.Int.RustNames.{unsigned_abs}
 use Rattle.std.proofs.lemmas.Int.{to_z-of_z}
 use Rattle.cyclo24.specs.declared.whole.Whole.{Whole}
 use Rattle.cyclo24.specs.declared.fraction8.Fraction8.{Fraction8}

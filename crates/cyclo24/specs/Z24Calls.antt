@@ -11,9 +11,7 @@ use Rattle.cyclo24.specs.declared.whole.Whole.{Whole}
 use Rattle.cyclo24.specs.declared.fraction4.Fraction4.{Fraction4}
 use Rattle.cyclo24.specs.declared.fraction8.Fraction8.{Fraction8}
 use Rattle.cyclo24.specs.Gcd.{gcd, quotient, lowest_terms, all_zero}
-use Rattle.cyclo24.specs.GcdLaws.{gcd_is}
 use Rattle.cyclo24.specs.WholeRing.{whole}
-use Rattle.cyclo24.specs.Written4Laws.{quotient_positive}
 use Rattle.cyclo24.specs.FourNorm.{whole4, four, four_is, list4}
 use Rattle.cyclo24.specs.Eight.{mul8, conj8, re8, im8, real8}
 use Rattle.cyclo24.specs.EightNorm.{whole8, eight, eight_is, list8, above0, above3}
@@ -25,7 +23,7 @@ use Rattle.cyclo24.specs.Checked.{is_wide, answer}
 use Rattle.cyclo24.specs.CheckedLaws.{answer_ok, neg_narrow, below_wide}
 use Rattle.cyclo24.specs.Written4.{numbers4, numerators4, four_of, IsNarrow4}
 use Rattle.cyclo24.specs.Written8.{numbers8, numerators8, eight_of, IsNarrow8, num, sum, product, negated, conjugate, real, imaginary, from_four}
-use Rattle.cyclo24.specs.Written8Values.{product_value, sum_value, conjugate_value, real_value, imaginary_value, from_four_value, product_narrow, sum_narrow, conjugate_narrow, real_narrow, imaginary_narrow, from_four_narrow}
+use Rattle.cyclo24.specs.Written8Values.{product_value, sum_value, conjugate_value, real_value, imaginary_value, from_four_value, conjugate_narrow, real_narrow, imaginary_narrow, from_four_narrow}
 use Rattle.cyclo24.specs.ExactK24.{Exact24}
 use Rattle.cyclo24.specs.ExactZ24.{ExactZ24, z24_laws, conj, real_part, imag_part, from_real}
 

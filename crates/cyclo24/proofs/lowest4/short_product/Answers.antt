@@ -1,6 +1,5 @@
 use Rattle.std.proofs.Common.{◌∙◌, ap}
 use Rattle.cyclo24.specs.declared.small.Small.{Small}
-use Rattle.cyclo24.specs.declared.short4.Short4.{Short4}
 use Rattle.cyclo24.specs.FourNorm.{list4}
 use Rattle.cyclo24.specs.WholeRing.{whole}
 use Rattle.cyclo24.specs.Four.{mul4}

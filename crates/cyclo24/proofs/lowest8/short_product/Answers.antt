@@ -1,6 +1,5 @@
 use Rattle.std.proofs.Common.{◌∙◌, ap}
 use Rattle.cyclo24.specs.declared.small.Small.{Small}
-use Rattle.cyclo24.specs.declared.short8.Short8.{Short8}
 use Rattle.cyclo24.specs.EightNorm.{list8}
 use Rattle.cyclo24.specs.WholeRing.{whole}
 use Rattle.cyclo24.specs.Eight.{mul8}

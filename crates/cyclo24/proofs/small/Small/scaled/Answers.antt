@@ -1,4 +1,4 @@
-use Rattle.std.proofs.Common.{◌≤◌, ◌<◌, ◌^◌, ◌*◌, ℤ, subst, sym, ap, lit≤, arith}
+use Rattle.std.proofs.Common.{◌≤◌, ◌^◌, ◌*◌, ℤ, subst, sym, ap, lit≤, arith}
 use Rattle.std.specs.Prelude.{FitsSigned, ◌*ℤ◌}
 use Rattle.std.specs.Int.{w64}
 use Rattle.std.specs.Int.RustNames.{unsigned_abs}
