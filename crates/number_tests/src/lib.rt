@@ -15,8 +15,6 @@ mod matrices;
 #[cfg(test)]
 mod measured_forms;
 #[cfg(test)]
-mod measured_sums;
-#[cfg(test)]
 mod rows;
 #[cfg(test)]
 mod sign;
