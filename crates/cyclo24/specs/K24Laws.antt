@@ -12,9 +12,7 @@ use Rattle.cyclo24.specs.declared.fraction4.Fraction4.{Fraction4}
 use Rattle.cyclo24.specs.Gcd.{gcd, quotient, lowest_terms, all_zero}
 use Rattle.algebra.specs.Whole.{whole}
 use Rattle.algebra.specs.WholeLaws.{whole_ring}
-use Rattle.algebra.specs.SolveLaws.{mul_neg, by_test}
-use Rattle.cyclo24.specs.GcdLaws.{gcd_is}
-use Rattle.cyclo24.specs.Written4Laws.{quotient_positive}
+use Rattle.algebra.specs.SolveLaws.{mul_neg}
 use Rattle.cyclo24.specs.Four.{Four, mul4, norm4, adj4, num4}
 use Rattle.cyclo24.specs.FourLaws.{scaled}
 use Rattle.cyclo24.specs.FourNorm.{whole4, four, four_is, list4, by_sign, norm_zero}

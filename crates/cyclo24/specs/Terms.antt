@@ -2,7 +2,7 @@
 --
 -- unit_value u, term_value t, terms_value ts: the exact values of a unit, a term and a sum of terms
 -- unit8 u, term8 t, terms8 ts: the coefficients of 1, z, .., z^7 in a unit, and in 24 times a term and a sum of terms
-use Rattle.std.specs.Prelude.{◌≡◌, ℕ, ◌<◌, ◌≤◌, ◌/◌, ◌%◌, ℤ, pos, ◌*ℤ◌, List, [], ◌∷◌, get_or}
+use Rattle.std.specs.Prelude.{ℕ, ◌≤◌, ◌/◌, ℤ, pos, ◌*ℤ◌, List, [], ◌∷◌, get_or}
 use Rattle.std.specs.Int.RustNames.{unsigned_abs}
 use Rattle.iso_text.specs.declared.numbers.Term.{Term}
 use Rattle.iso_text.specs.declared.numbers.Unit.{Unit as TermUnit}

@@ -11,9 +11,7 @@ use Rattle.cyclo24.specs.declared.whole.Whole.{Whole}
 use Rattle.cyclo24.specs.declared.fraction4.Fraction4.{Fraction4}
 use Rattle.cyclo24.specs.declared.fraction8.Fraction8.{Fraction8}
 use Rattle.cyclo24.specs.Gcd.{gcd, quotient, lowest_terms, all_zero}
-use Rattle.cyclo24.specs.GcdLaws.{gcd_is}
 use Rattle.algebra.specs.Whole.{whole}
-use Rattle.cyclo24.specs.Written4Laws.{quotient_positive}
 use Rattle.cyclo24.specs.FourNorm.{whole4, four, four_is, list4}
 use Rattle.cyclo24.specs.Eight.{mul8, conj8, re8, im8, real8}
 use Rattle.cyclo24.specs.EightNorm.{whole8, eight, eight_is, list8, above0, above3}
