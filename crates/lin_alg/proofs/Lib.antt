@@ -10,3 +10,4 @@ mod MatrixLemmas
 mod SolvingLemmas
 mod FreeLemmas
 mod HashLemmas
+mod SquareLemmas

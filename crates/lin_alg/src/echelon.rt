@@ -1,5 +1,5 @@
 // The one reduced echelon form of a span.
-ghost use Rattle.std.specs.Prelude.{◌≡◌, ◌↔◌, ◌<◌, ◌≤◌, ◌+◌, ◌∷◌, [], ℕ, true, false, Ok, Err, IfOk, OnOk, OnErr, length, slice_index_or};
+ghost use Rattle.std.specs.Prelude.{◌≡◌, ◌↔◌, ◌<◌, ◌≤◌, ◌+◌, ◌∷◌, [], ℕ, true, false, Ok, Err, IfOk, OnOk, OnErr, length, map, slice_index_or};
 ghost use Rattle.cyclo24.specs.ExactField.{Value};
 ghost use Rattle.lin_alg.specs.Spans.{less, IsInSpan, AreSame};
 ghost use Rattle.lin_alg.specs.Reduced.{IsClear};
@@ -13,13 +13,14 @@ ghost use Rattle.lin_alg.specs.declared.echelon.Grew.TheVariants as grew;
 mod compare;
 mod free;
 
-use crate::LinError;
 use crate::elimination::{insert_row, last_column, reduce_row};
 use crate::memory::{add_spare, copy_lines};
+use crate::{LinError, Steps};
 use cyclo24::{Field, Wide};
 use iso_text::NoMemory;
 use std::alloc::Global;
 use std::marker::Model;
+use std::sync::ledger::Ledger;
 
 /// Whether an insertion enlarged the span.
 #[derive(Clone, Copy, Debug, PartialEq, Eq)]
@@ -64,6 +65,22 @@ impl<F: Field> Echelon<F> {
             width,
             whole: true,
             lines: Vec::new(alloc),
+            spare: Vec::new(alloc),
+        }
+    }
+
+    /// The form of these rows, each with its pivot. It takes no memory.
+    pub fn from_rows(alloc: Global, width: usize, lines: Vec<(usize, Vec<F>)>) -> Echelon<F>
+        requires { IsEchelon F.field F.value (record { width = width; whole = true; rows = map (λ r. (r.0, r.1.items)) lines.items; spare = 0 }) }
+        ensures width { result.width ≡ width }
+        ensures whole { result.whole ≡ true }
+        ensures rows { result.rows ≡ map (λ r. (r.0, r.1.items)) lines.items }
+        ensures form { IsEchelon F.field F.value result }
+    {
+        Echelon {
+            width,
+            whole: true,
+            lines,
             spare: Vec::new(alloc),
         }
     }
@@ -164,9 +181,14 @@ impl<F: Field> Echelon<F> {
     }
 
     /// Inserts a row, so that the form is that of the span with the row, and tells whether the row
-    /// was new. It takes memory only where there is no room. After `Wide` the form isn't whole; after
-    /// want of memory it is as it was. The row holds any values afterwards.
-    pub fn insert(&mut self, row: &mut [F]) -> Result<Grew, LinError>
+    /// was new. It is one step, whatever it answers. It takes memory only where there is no room. After
+    /// `Wide` the form isn't whole; after want of memory it is as it was. The row holds any values
+    /// afterwards.
+    pub fn insert<L: Ledger>(
+        &mut self,
+        row: &mut [F],
+        steps: &mut Steps<L>,
+    ) -> Result<Grew, LinError>
         requires whole { self.old.whole ≡ true }
         requires width { length row.old ≡ self.old.width }
         ensures width { self.new.width ≡ self.old.width }
@@ -180,7 +202,9 @@ impl<F: Field> Echelon<F> {
         ensures memory { (result ≡ Err lin_error.NoMemory) → (self.old.spare ≡ 0) × (self.new.whole ≡ true) × (self.new.rows ≡ self.old.rows) }
         ensures spare { self.old.spare ≤ self.new.spare + 1 }
         ensures room { (result ≡ Ok grew.Yes → ⊥) → self.old.spare ≤ self.new.spare }
+        ensures cost { steps.new ≡ steps.old + 1 }
     {
+        steps.tick();
         self.make_room()?;
         match insert_row(&mut self.lines, &mut self.spare, row) {
             Ok(grew) => Ok(grew),

@@ -1,9 +1,11 @@
 // Matrices.
 ghost use Rattle.std.specs.Prelude.{◌≡◌, ◌<◌, ◌≤◌, ◌*◌, ◌/◌, ◌%◌, ◌^◌, ◌⊎◌, ℕ, IfOk, OnOk, OnErr, Err, false, IsTrue, length};
 ghost use Rattle.lin_alg.specs.Rows.{vector};
-ghost use Rattle.lin_alg.specs.Matrix.{entry, with_entry, IsWideTerm, IsWideDot, IsWideMul};
-ghost use Rattle.lin_alg.specs.Matrices.{mul};
+ghost use Rattle.lin_alg.specs.Matrix.{entry, with_entry, IsWideTerm, IsWideDot, IsWideMul, IsWideTrace};
+ghost use Rattle.lin_alg.specs.Matrices.{mul, trace};
 ghost use Rattle.lin_alg.specs.declared.errors.LinError.TheVariants as lin_error;
+
+mod equal;
 
 use crate::LinError;
 use crate::memory::zeros;
@@ -11,6 +13,8 @@ use cyclo24::{Field, Wide};
 use iso_text::NoMemory;
 use std::alloc::Global;
 use std::marker::Model;
+
+pub use equal::are_equal;
 
 /// A matrix of field values. Rows and columns are numbered from 0.
 #[derive(Drop)]
@@ -101,6 +105,19 @@ impl<F: Field> Matrix<F> {
             entries,
         })
     }
+
+    /// The sum of the entries on the diagonal of the square matrix, from left to right.
+    pub fn trace(&self) -> Result<F, Wide>
+        requires { self.now.rows ≡ self.now.cols }
+        ensures exact { IfOk result (λ r. F.value r ≡ trace F.field.laws self.now.rows (entry F.field F.value self.now)) }
+        ensures wide { OnErr result (IsWideTrace F.field self.now.rows (entry F.field F.value self.now)) }
+    {
+        let mut sum = F::zero();
+        for i in 0..self.rows() {
+            sum = sum.add(self.get(i, i))?;
+        }
+        Ok(sum)
+    }
 }
 
 // Writes the entries of the product, row by row.
@@ -131,8 +148,9 @@ fn product_entry<F: Field>(a: &Matrix<F>, b: &Matrix<F>, i: usize, j: usize) -> 
     Ok(sum)
 }
 
-// The sum and the product x y.
-fn add_product<F: Field>(sum: F, x: F, y: F) -> Result<F, Wide>
+/// The sum and the product x y, one step of a row times a column. A product with a factor 0 isn't
+/// formed, and a product alone isn't added.
+pub fn add_product<F: Field>(sum: F, x: F, y: F) -> Result<F, Wide>
     ensures exact { IfOk result (λ r. F.value r ≡ F.field.laws.plus (F.value sum) (F.field.laws.times (F.value x) (F.value y))) }
     ensures wide { OnErr result (IsWideTerm F.field (F.value sum) (F.value x) (F.value y)) }
 {

@@ -11,10 +11,12 @@ ghost use Rattle.lin_alg.specs.Solving.{combination, AreIndependent, joined, joi
 ghost use Rattle.lin_alg.specs.declared.errors.LinError.TheVariants as lin_error;
 
 use crate::memory::zeros;
-use crate::{Echelon, LinError, Matrix, Row};
+use crate::{Echelon, LinError, Matrix, Row, Steps};
 use cyclo24::Field;
 use iso_text::NoMemory;
 use std::alloc::Global;
+use std::marker::Brand;
+use std::sync::ledger::{Blank, Ledger};
 
 /// The x with x 0 times row 0, + .. + x (n - 1) times row n - 1 equal to the target, and `None`
 /// where there is none. The n rows are independent. Each row, with its unit vector in front, is
@@ -34,7 +36,7 @@ pub fn solve<F: Field>(
     ensures wide { (result ≡ Err lin_error.Wide) → IsWideSolve F.field rows.now.rows (entry_of F.field F.value rows.now) (vector F.field F.value target.now) }
 {
     let n = rows.rows();
-    let form = match joined_form(alloc, rows) {
+    let form = match joined_form::<F, Brand>(alloc, rows, Blank::new(1)) {
         Ok(form) => form,
         Err(error) => return Err(error),
     };
@@ -102,8 +104,16 @@ fn answer_of<F: Field>(alloc: Global, left: &[F], n: usize) -> Result<Option<Row
     }
 }
 
-// The form of the joined rows: each row with its unit vector in front.
-fn joined_form<F: Field>(alloc: Global, rows: &Matrix<F>) -> Result<Echelon<F>, LinError>
+// The form of the joined rows: each row with its unit vector in front. The blank is for a counter of
+// its own.
+fn joined_form<F: Field, L: Ledger>(
+    alloc: Global,
+    rows: &Matrix<F>,
+    blank: Blank,
+) -> Result<Echelon<F>, LinError>
+    requires name { blank.name ≡ L.name }
+    requires parts { blank.parts ≡ L.parts }
+    requires some { 0 < blank.parts }
     ensures width { IfOk result (λ form. form.width ≡ rows.now.rows + rows.now.cols) }
     ensures whole { IfOk result (λ form. form.whole ≡ true) }
     ensures form { IfOk result (λ form. IsEchelon F.field F.value form) }
@@ -115,8 +125,9 @@ fn joined_form<F: Field>(alloc: Global, rows: &Matrix<F>) -> Result<Echelon<F>, 
     let mut form = Echelon::new(alloc, width);
     form.reserve(n)?;
     let mut row = zeros(alloc, width)?;
+    let mut steps = Steps::new(blank);
     for i in 0..n {
-        match insert_joined(&mut form, &mut row, rows, i) {
+        match insert_joined::<F, L>(&mut form, &mut row, rows, i, &mut steps) {
             Ok(()) => {}
             Err(error) => return Err(error),
         }
@@ -125,11 +136,12 @@ fn joined_form<F: Field>(alloc: Global, rows: &Matrix<F>) -> Result<Echelon<F>, 
 }
 
 // Inserts row i with its unit vector in front. The lent row is only room for it.
-fn insert_joined<F: Field>(
+fn insert_joined<F: Field, L: Ledger>(
     form: &mut Echelon<F>,
     row: &mut [F],
     rows: &Matrix<F>,
     i: usize,
+    steps: &mut Steps<L>,
 ) -> Result<(), LinError>
     requires place { i < rows.now.rows }
     requires room { length row.old ≡ rows.now.rows + rows.now.cols }
@@ -142,7 +154,7 @@ fn insert_joined<F: Field>(
     ensures wide { (result ≡ Err lin_error.Wide) → IsWideInsert F.field (exact_rows F.field F.value form.old.rows) (joined rows.now.rows (unit_vector F.field.laws i) (entry_of F.field F.value rows.now i)) }
 {
     fill_joined(row, rows, i);
-    match form.insert(row) {
+    match form.insert(row, steps) {
         Ok(_) => Ok(()),
         Err(error) => Err(error),
     }

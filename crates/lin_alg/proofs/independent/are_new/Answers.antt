@@ -6,7 +6,7 @@ use Rattle.lin_alg.specs.Matrix.{entry}
 use Rattle.lin_alg.specs.Solving.{AreIndependent, plain_rows}
 use Rattle.lin_alg.specs.IndependenceLaws.{independent-more, member-dependent, independent-first}
 use Rattle.lin_alg.proofs.SolvingLemmas.{same-more}
-use Rattle.lin_alg.proofs.independent.are_independent.Goals as goal
+use Rattle.lin_alg.proofs.independent.are_new.Goals as goal
 
 pub returns-in-Ok-No-clause-answer : goal.returns-in-Ok-No-clause-answer
 returns-in-Ok-No-clause-answer g c = (
