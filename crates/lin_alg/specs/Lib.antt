@@ -27,5 +27,6 @@ pub mod MoverLaws
 pub mod WitnessLaws
 pub mod MoveLaws
 pub mod ImageLaws
+pub mod LengthLaws
 pub mod CompareLaws
 pub mod IndependenceLaws

@@ -8,6 +8,7 @@
 -- IsWideTrace f n a: the trace of an n by n matrix is wide
 -- IsWideMultiple f n x a: a product of x with an entry of an n by n matrix is wide
 use Rattle.std.specs.Prelude.{◌≡◌, ℕ, ◌+◌, ◌*◌, ◌<◌, false, IsTrue, List, ◌⊎◌, ◌&&◌, ltb, nat_eq, if◌then◌else◌}
+use Rattle.cyclo24.specs.FieldOn.{FieldOn}
 use Rattle.cyclo24.specs.ExactField.{ExactField, Value}
 use Rattle.cyclo24.specs.Sums.{total}
 use Rattle.lin_alg.specs.Rows.{vector}
@@ -19,8 +20,8 @@ pub record MatrixView (A : Type 0) : Type 0 where
   pub entries : List A
 
 -- the exact value of entry (i, j), and 0 outside
-abbrev pub entry : {A : Type 0} (f : ExactField) → (A → Value f) → MatrixView A → ℕ → ℕ → Value f
-entry f value m i j = if ltb j m.cols then vector f value m.entries (i * m.cols + j) else f.laws.nought
+abbrev pub entry : {A K : Type 0} → FieldOn K → (A → K) → MatrixView A → ℕ → ℕ → K
+entry f value m i j = if ltb j m.cols then vector f value m.entries (i * m.cols + j) else f.nought
 
 -- x at (i, j), and m elsewhere
 abbrev pub with_entry : {K : Type 0} → ℕ → ℕ → K → (ℕ → ℕ → K) → ℕ → ℕ → K

@@ -18,8 +18,8 @@ use std::sync::ledger::{Blank, Ledger};
 
 /// Whether the rows are independent: each, inserted into the form of those before it, is new.
 pub fn are_independent<F: Field>(alloc: Global, rows: &Matrix<F>) -> Result<bool, LinError>
-    ensures answer { IfOk result (λ b. (b ≡ true) ↔ AreIndependent F.field.laws rows.now.rows (entry_of F.field F.value rows.now)) }
-    ensures wide { (result ≡ Err lin_error.Wide) → IsWideIndependent F.field rows.now.rows (entry_of F.field F.value rows.now) }
+    ensures answer { IfOk result (λ b. (b ≡ true) ↔ AreIndependent F.field.laws rows.now.rows (entry_of F.field.laws F.value rows.now)) }
+    ensures wide { (result ≡ Err lin_error.Wide) → IsWideIndependent F.field rows.now.rows (entry_of F.field.laws F.value rows.now) }
 {
     are_new::<F, Brand>(alloc, rows, Blank::new(1))
 }
@@ -33,8 +33,8 @@ fn are_new<F: Field, L: Ledger>(
     requires name { blank.name ≡ L.name }
     requires parts { blank.parts ≡ L.parts }
     requires some { 0 < blank.parts }
-    ensures answer { IfOk result (λ b. (b ≡ true) ↔ AreIndependent F.field.laws rows.now.rows (entry_of F.field F.value rows.now)) }
-    ensures wide { (result ≡ Err lin_error.Wide) → IsWideIndependent F.field rows.now.rows (entry_of F.field F.value rows.now) }
+    ensures answer { IfOk result (λ b. (b ≡ true) ↔ AreIndependent F.field.laws rows.now.rows (entry_of F.field.laws F.value rows.now)) }
+    ensures wide { (result ≡ Err lin_error.Wide) → IsWideIndependent F.field rows.now.rows (entry_of F.field.laws F.value rows.now) }
 {
     let n = rows.rows();
     let mut form = Echelon::new(alloc, rows.cols());
@@ -64,10 +64,10 @@ fn insert_matrix_row<F: Field, L: Ledger>(
     requires whole { form.old.whole ≡ true }
     ensures width { form.new.width ≡ form.old.width }
     ensures whole { OnOk result (form.new.whole ≡ true) }
-    ensures form { IsEchelon F.field F.value form.new }
-    ensures span { OnOk result (AreSame (IsSpanned F.field F.value form.new) (IsInSpan F.field.laws ((0, entry_of F.field F.value rows.now i) ∷ exact_rows F.field F.value form.old.rows))) }
-    ensures grew { IfOk result (λ answer. (answer ≡ grew.Yes) ↔ (IsSpanned F.field F.value form.old (entry_of F.field F.value rows.now i) → ⊥)) }
-    ensures wide { (result ≡ Err lin_error.Wide) → IsWideInsert F.field (exact_rows F.field F.value form.old.rows) (entry_of F.field F.value rows.now i) }
+    ensures form { IsEchelon F.field.laws F.value form.new }
+    ensures span { OnOk result (AreSame (IsSpanned F.field.laws F.value form.new) (IsInSpan F.field.laws ((0, entry_of F.field.laws F.value rows.now i) ∷ exact_rows F.field.laws F.value form.old.rows))) }
+    ensures grew { IfOk result (λ answer. (answer ≡ grew.Yes) ↔ (IsSpanned F.field.laws F.value form.old (entry_of F.field.laws F.value rows.now i) → ⊥)) }
+    ensures wide { (result ≡ Err lin_error.Wide) → IsWideInsert F.field (exact_rows F.field.laws F.value form.old.rows) (entry_of F.field.laws F.value rows.now i) }
 {
     fill_row(row, rows, i);
     match form.insert(row, steps) {
@@ -80,7 +80,7 @@ fn insert_matrix_row<F: Field, L: Ledger>(
 fn fill_row<F: Field>(row: &mut [F], rows: &Matrix<F>, i: usize)
     requires place { i < rows.now.rows }
     requires width { length row.old ≡ rows.now.cols }
-    ensures { vector F.field F.value row.new ≡ entry_of F.field F.value rows.now i }
+    ensures { vector F.field.laws F.value row.new ≡ entry_of F.field.laws F.value rows.now i }
 {
     for j in 0..row.len() {
         row[j] = rows.get(i, j);

@@ -25,8 +25,8 @@ pub use echelon::{Echelon, Grew};
 pub use errors::LinError;
 pub use independent::are_independent;
 pub use laws::{
-    equal_by_value, equal_forms, fixed_vectors, forms_are_equations, forms_are_unique, images,
-    no_finite_union, not_reduced,
+    law_of_equal_forms, law_of_equal_values, law_of_equations, law_of_fixed_vectors, law_of_images,
+    law_of_no_forms, law_of_unions, law_of_unique_forms,
 };
 pub use matrix::{Matrix, add_product, are_equal};
 pub use memory::zeros;

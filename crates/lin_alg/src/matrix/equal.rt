@@ -25,8 +25,8 @@ impl<F: Field> Matrix<F> {
     /// Whether the square matrix is the unit matrix.
     pub fn is_unit(&self) -> bool
         requires { self.now.rows ≡ self.now.cols }
-        ensures yes { result ≡ true → AreEqualBelow self.now.rows (entry F.field F.value self.now) (unit_entry F.field.laws) }
-        ensures no { result ≡ false → AreEqualBelow self.now.rows (entry F.field F.value self.now) (unit_entry F.field.laws) → ⊥ }
+        ensures yes { result ≡ true → AreEqualBelow self.now.rows (entry F.field.laws F.value self.now) (unit_entry F.field.laws) }
+        ensures no { result ≡ false → AreEqualBelow self.now.rows (entry F.field.laws F.value self.now) (unit_entry F.field.laws) → ⊥ }
     {
         let size = self.rows();
         for e in 0..size * size {
@@ -43,9 +43,9 @@ impl<F: Field> Matrix<F> {
         requires square { self.now.rows ≡ self.now.cols }
         requires rows { other.now.rows ≡ self.now.rows }
         requires cols { other.now.cols ≡ self.now.rows }
-        ensures yes { result ≡ Ok true → AreEqualBelow self.now.rows (entry F.field F.value self.now) (multiple F.field.laws (F.value factor) (entry F.field F.value other.now)) }
-        ensures no { result ≡ Ok false → AreEqualBelow self.now.rows (entry F.field F.value self.now) (multiple F.field.laws (F.value factor) (entry F.field F.value other.now)) → ⊥ }
-        ensures wide { OnErr result (IsWideMultiple F.field self.now.rows (F.value factor) (entry F.field F.value other.now)) }
+        ensures yes { result ≡ Ok true → AreEqualBelow self.now.rows (entry F.field.laws F.value self.now) (multiple F.field.laws (F.value factor) (entry F.field.laws F.value other.now)) }
+        ensures no { result ≡ Ok false → AreEqualBelow self.now.rows (entry F.field.laws F.value self.now) (multiple F.field.laws (F.value factor) (entry F.field.laws F.value other.now)) → ⊥ }
+        ensures wide { OnErr result (IsWideMultiple F.field self.now.rows (F.value factor) (entry F.field.laws F.value other.now)) }
     {
         let size = self.rows();
         for e in 0..size * size {

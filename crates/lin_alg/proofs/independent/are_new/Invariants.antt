@@ -9,7 +9,7 @@ abbrev pub invariant-loop-i : goal.invariant-loop-i
 invariant-loop-i g l =
     let f = g.F.Field.field in
     let v = g.F.Field.value in
-    (l.form.width ≡ l.rows.cols) × (l.form.whole ≡ true) × IsEchelon f v l.form
-    × AreSame (IsSpanned f v l.form) (IsInSpan f.laws (plain_rows (entry f v l.rows) l.i))
+    (l.form.width ≡ l.rows.cols) × (l.form.whole ≡ true) × IsEchelon f.laws v l.form
+    × AreSame (IsSpanned f.laws v l.form) (IsInSpan f.laws (plain_rows (entry f.laws v l.rows) l.i))
     × (vec_len l.row ≡ l.rows.cols)
-    × AreIndependent f.laws l.i (entry f v l.rows)
+    × AreIndependent f.laws l.i (entry f.laws v l.rows)

@@ -7,4 +7,4 @@ abbrev pub invariant-loop-e : goal.invariant-loop-e
 invariant-loop-e g l =
     let f = g.F.Field.field in
     let v = g.F.Field.value in
-    AreEqualTo l.self.rows (entry f v l.self) (multiple f.laws (v l.factor) (entry f v l.other)) l.e
+    AreEqualTo l.self.rows (entry f.laws v l.self) (multiple f.laws (v l.factor) (entry f.laws v l.other)) l.e

@@ -6,4 +6,4 @@ use Rattle.lin_alg.proofs.matrix.Matrix.is_unit.Given as goal
 abbrev pub invariant-loop-e : goal.invariant-loop-e
 invariant-loop-e g l =
     let f = g.F.Field.field in
-    AreEqualTo l.self.rows (entry f g.F.Field.value l.self) (unit_entry f.laws) l.e
+    AreEqualTo l.self.rows (entry f.laws g.F.Field.value l.self) (unit_entry f.laws) l.e

@@ -7,4 +7,4 @@ abbrev pub invariant-loop-i : goal.invariant-loop-i
 invariant-loop-i g l =
     let f = g.F.Field.field in
     let v = g.F.Field.value in
-    v l.sum ≡ total f.laws l.i (λ k. entry f v l.self k k)
+    v l.sum ≡ total f.laws l.i (λ k. entry f.laws v l.self k k)

@@ -4,7 +4,7 @@ use Rattle.lin_alg.specs.SpanLaws.{reduced-unique}
 use Rattle.lin_alg.specs.Rows.{exact_rows, HaveWidth}
 use Rattle.lin_alg.specs.RowLaws.{equality-told}
 use Rattle.lin_alg.specs.CompareLaws.{lines-equal, equal-lines}
-use Rattle.lin_alg.proofs.laws.equal_forms.Goals as goal
+use Rattle.lin_alg.proofs.laws.law_of_equal_forms.Goals as goal
 
 pub returns-clause-rows : goal.returns-clause-rows
 returns-clause-rows g c a b ea eb wa wb w =
@@ -23,8 +23,8 @@ returns-clause-spans g c a b ea eb wa wb w =
     let ra = (ea.form wa).reduced in
     let rb = (eb.form wb).reduced in (
       λ h.
-          let e : exact_rows f v a.rows ≡ exact_rows f v b.rows = equal-lines f v g.F.PartialEq.eq tells a.rows b.rows ra rb h in
+          let e : exact_rows f.laws v a.rows ≡ exact_rows f.laws v b.rows = equal-lines f v g.F.PartialEq.eq tells a.rows b.rows ra rb h in
           λ u. (λ m. subst (λ (z : List (ℕ × (ℕ → _))). IsInSpan f.laws z u) e m, λ m. subst (λ (z : List (ℕ × (ℕ → _))). IsInSpan f.laws z u) (sym e) m),
       λ s. lines-equal f v g.F.PartialEq.eq tells a.width a.rows b.rows ea.shape (subst (λ (n : ℕ). HaveWidth n b.rows) (sym w) eb.shape)
-          (reduced-unique f.laws (exact_rows f v a.rows) (exact_rows f v b.rows) ra rb (λ u. (s u).0) (λ u. (s u).1)),
+          (reduced-unique f.laws (exact_rows f.laws v a.rows) (exact_rows f.laws v b.rows) ra rb (λ u. (s u).0) (λ u. (s u).1)),
     )

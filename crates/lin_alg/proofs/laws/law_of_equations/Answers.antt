@@ -1,7 +1,7 @@
 use Rattle.lin_alg.specs.FormLaws.{form-equations}
 use Rattle.lin_alg.specs.FreeLaws.{free-span}
 use Rattle.lin_alg.specs.Equations.{Vanishes}
-use Rattle.lin_alg.proofs.laws.forms_are_equations.Goals as goal
+use Rattle.lin_alg.proofs.laws.law_of_equations.Goals as goal
 
 pub returns-clause-equations : goal.returns-clause-equations
 returns-clause-equations g c w rs r = form-equations g.F.Field.field.laws w (Vanishes g.F.Field.field.laws w rs) rs r (λ v. (λ k. k, λ k. k))

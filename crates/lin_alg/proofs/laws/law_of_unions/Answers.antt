@@ -2,7 +2,7 @@ use Rattle.lin_alg.specs.Equations.{Vanishes}
 use Rattle.lin_alg.specs.FormLaws.{vanishes-subspace}
 use Rattle.lin_alg.specs.UnionLaws.{avoiding}
 use Rattle.lin_alg.specs.WitnessLaws.{vanishes-or}
-use Rattle.lin_alg.proofs.laws.no_finite_union.Goals as goal
+use Rattle.lin_alg.proofs.laws.law_of_unions.Goals as goal
 
 pub returns : goal.returns
 returns g c w rs n ss =

@@ -1,7 +1,7 @@
 use Rattle.std.proofs.Common.{◌<◌, sym, ◌∙◌, arith}
 use Rattle.cyclo24.specs.FieldLaws.{plus-cancel, nought-plus}
 use Rattle.lin_alg.specs.SpanLaws.{unit-not-nought}
-use Rattle.lin_alg.proofs.laws.not_reduced.Goals as goal
+use Rattle.lin_alg.proofs.laws.law_of_no_forms.Goals as goal
 
 pub returns-clause-zero_row : goal.returns-clause-zero_row
 returns-clause-zero_row g c p rs r = unit-not-nought g.F.Field.field.laws (sym r.0.0)
