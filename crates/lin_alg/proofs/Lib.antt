@@ -11,3 +11,4 @@ mod SolvingLemmas
 mod FreeLemmas
 mod HashLemmas
 mod SquareLemmas
+mod CompareLemmas

@@ -11,11 +11,11 @@ use Rattle.lin_alg.proofs.VectorLemmas.{vector-take}
 dec : (k n : ℕ) → (k < n) ⊎ (n ≤ k)
 dec k n = grind arith
 
--- rows with the same span have the same span with one more row
-pub same-more : {K : Type 0} (f : FieldOn K) (rs ss : List (ℕ × (ℕ → K))) (r s : ℕ × (ℕ → K)) → r.1 ≡ s.1 → AreSame (IsInSpan f rs) (IsInSpan f ss) → AreSame (IsInSpan f (r ∷ rs)) (IsInSpan f (s ∷ ss))
+-- vectors with the same span have the same span with one more
+pub same-more : {K : Type 0} (f : FieldOn K) (rs ss : List (ℕ → K)) (r s : ℕ → K) → r ≡ s → AreSame (IsInSpan f rs) (IsInSpan f ss) → AreSame (IsInSpan f (r ∷ rs)) (IsInSpan f (s ∷ ss))
 same-more f rs ss r s e t v = (
-  λ h. (h.0, subst (λ (x : ℕ → _). IsInSpan f ss (less f v h.0 x)) e ((t (less f v h.0 r.1)).0 h.1)),
-  λ h. (h.0, (t (less f v h.0 r.1)).1 (subst (λ (x : ℕ → _). IsInSpan f ss (less f v h.0 x)) (sym e) h.1)),
+  λ h. (h.0, subst (λ (x : ℕ → _). IsInSpan f ss (less f v h.0 x)) e ((t (less f v h.0 r)).0 h.1)),
+  λ h. (h.0, (t (less f v h.0 r)).1 (subst (λ (x : ℕ → _). IsInSpan f ss (less f v h.0 x)) (sym e) h.1)),
 )
 
 module _ {A : Type 0} (f : ExactField) (value : A → Value f) where

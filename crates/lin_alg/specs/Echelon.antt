@@ -6,7 +6,7 @@
 -- IsSolution f value e v: each of the rows is 0 at v
 use Rattle.std.specs.Prelude.{◌≡◌, ℕ, Bool, true, List}
 use Rattle.cyclo24.specs.FieldOn.{FieldOn}
-use Rattle.lin_alg.specs.Spans.{IsInSpan}
+use Rattle.lin_alg.specs.Spans.{row_vectors, IsInSpan}
 use Rattle.lin_alg.specs.Reduced.{IsForm}
 use Rattle.lin_alg.specs.Rows.{exact_rows, HaveWidth}
 use Rattle.lin_alg.specs.Equations.{Vanishes}
@@ -25,8 +25,8 @@ pub record IsEchelon {A K : Type 0} (f : FieldOn K) (value : A → K) (e : Echel
 
 -- v is in the span of the rows
 abbrev pub IsSpanned : {A K : Type 0} → FieldOn K → (A → K) → EchelonView A → (ℕ → K) → Type 0
-IsSpanned f value e v = IsInSpan f (exact_rows f value e.rows) v
+IsSpanned f value e v = IsInSpan f (row_vectors (exact_rows f value e.rows)) v
 
 -- each of the rows is 0 at v
 abbrev pub IsSolution : {A K : Type 0} → FieldOn K → (A → K) → EchelonView A → (ℕ → K) → Type 0
-IsSolution f value e v = Vanishes f e.width (exact_rows f value e.rows) v
+IsSolution f value e v = Vanishes f e.width (row_vectors (exact_rows f value e.rows)) v

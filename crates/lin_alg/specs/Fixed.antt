@@ -36,9 +36,9 @@ abbrev pub mover : {valid : List ℤ → Bool} → FieldOn (Exact valid) → Act
 mover f act q i j = if ltb j act.dim then f.plus (entry_of f act q i j) (f.neg (unit_entry f i j)) else f.nought
 
 -- the first n rows of A(q) - 1
-abbrev pub movers : {valid : List ℤ → Bool} → FieldOn (Exact valid) → Action → ℕ → ℕ → List (ℕ × (ℕ → Exact valid))
+abbrev pub movers : {valid : List ℤ → Bool} → FieldOn (Exact valid) → Action → ℕ → ℕ → List (ℕ → Exact valid)
 movers f act q zero = []
-movers f act q (suc n) = (0, mover f act q n) ∷ movers f act q n
+movers f act q (suc n) = mover f act q n ∷ movers f act q n
 
 -- the equations of Fix(h)
 abbrev pub IsFixForm : {valid : List ℤ → Bool} → FieldOn (Exact valid) → Action → List ℕ → List (ℕ × (ℕ → Exact valid)) → Type 0

@@ -52,7 +52,7 @@ module _ (f : ExactField) (act : Action) where
 
 module _ (f : ExactField) where
   -- where the rows vanish, each row of their span does
-  pub span-vanishes : (w : ℕ) (rs : List (ℕ × (ℕ → Value f))) (v : ℕ → Value f) → Vanishes f.laws w rs v →
+  pub span-vanishes : (w : ℕ) (rs : List (ℕ → Value f)) (v : ℕ → Value f) → Vanishes f.laws w rs v →
       (x : ℕ → Value f) → IsInSpan f.laws rs x → dot f.laws w x v ≡ f.laws.nought
   span-vanishes w rs v h x s = span-least f.laws (λ e. dot f.laws w e v ≡ f.laws.nought) (vanish-subspace f.laws w v) rs h x s
 
@@ -72,22 +72,22 @@ module _ (f : ExactField) where
         ∙ ap (f.laws.times (e i)) (sym (image_of-inside f act r v i l)))
 
     -- the rows e A(q^-1) vanish on q U, where the rows e vanish on U
-    pub images-vanish : (q : ℕ) (rs : List (ℕ × (ℕ → Value f))) → AreSame (Vanishes f.laws act.dim (row_images f.laws act q rs)) (moved (moves_of f.laws act) q (Vanishes f.laws act.dim rs))
+    pub images-vanish : (q : ℕ) (rs : List (ℕ → Value f)) → AreSame (Vanishes f.laws act.dim (row_images f.laws act q rs)) (moved (moves_of f.laws act) q (Vanishes f.laws act.dim rs))
     images-vanish q [] v = (λ h. tt, λ h. tt)
     images-vanish q (r ∷ rs) v =
-        let e = dot-row_image q r.1 v in
+        let e = dot-row_image q r v in
         let more = images-vanish q rs v in
         (λ h. (sym e ∙ h.0, more.0 h.1), λ h. (e ∙ h.0, more.1 h.1))
 
-    pub images-within : (q : ℕ) (rs : List (ℕ × (ℕ → Value f))) → HasRows (IsWithin f.laws act.dim) (row_images f.laws act q rs)
+    pub images-within : (q : ℕ) (rs : List (ℕ → Value f)) → HasRows (IsWithin f.laws act.dim) (row_images f.laws act q rs)
     images-within q [] = tt
     images-within q (r ∷ rs) = (
-      λ j l. ap (λ b. if b then total f.laws act.dim (λ i. f.laws.times (r.1 i) (entry_of f.laws act (act.group.inverse q) i j)) else f.laws.nought) (le-ltb j act.dim l),
+      λ j l. ap (λ b. if b then total f.laws act.dim (λ i. f.laws.times (r i) (entry_of f.laws act (act.group.inverse q) i j)) else f.laws.nought) (le-ltb j act.dim l),
       images-within q rs,
     )
 
     -- a form with the span of the rows e A(q^-1) holds the equations of q U
-    pub image-form : (q : ℕ) (rs ss : List (ℕ × (ℕ → Value f))) →
+    pub image-form : (q : ℕ) (rs ss : List (ℕ → Value f)) →
         ((x : ℕ → Value f) → IsInSpan f.laws ss x ↔ IsInSpan f.laws (row_images f.laws act q rs) x) →
         AreSame (Vanishes f.laws act.dim ss) (moved (moves_of f.laws act) q (Vanishes f.laws act.dim rs))
     image-form q rs ss e v =

@@ -18,6 +18,6 @@ abbrev pub row_image : {valid : List ℤ → Bool} → FieldOn (Exact valid) →
 row_image f act q e = λ j. if ltb j act.dim then total f act.dim (λ i. f.times (e i) (entry_of f act (act.group.inverse q) i j)) else f.nought
 
 -- the rows e A(q^-1) for the rows e
-abbrev pub row_images : {valid : List ℤ → Bool} → FieldOn (Exact valid) → Action → ℕ → List (ℕ × (ℕ → Exact valid)) → List (ℕ × (ℕ → Exact valid))
+abbrev pub row_images : {valid : List ℤ → Bool} → FieldOn (Exact valid) → Action → ℕ → List (ℕ → Exact valid) → List (ℕ → Exact valid)
 row_images f act q [] = []
-row_images f act q (r ∷ rs) = (r.0, row_image f act q r.1) ∷ row_images f act q rs
+row_images f act q (r ∷ rs) = row_image f act q r ∷ row_images f act q rs

@@ -13,6 +13,10 @@ pub mod FormLaws
 pub mod RowLaws
 pub mod Matrix
 pub mod Matrices
+pub mod Blocks
+pub mod TraceLaws
+pub mod BlockLaws
+pub mod PhasedLaws
 pub mod Solving
 pub mod SolvingLaws
 pub mod FreeLaws

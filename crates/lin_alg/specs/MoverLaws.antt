@@ -13,7 +13,7 @@ use Rattle.lin_alg.specs.Fixed.{Fix, IsFixForm, mover, movers}
 use Rattle.lin_alg.specs.FormLaws.{form-equations, vanishes-mono}
 use Rattle.lin_alg.specs.Matrices.{unit_entry}
 use Rattle.lin_alg.specs.Reduced.{IsForm, IsWithin}
-use Rattle.lin_alg.specs.Spans.{IsInSpan}
+use Rattle.lin_alg.specs.Spans.{row_vectors, IsInSpan}
 use Rattle.cyclo24.specs.TotalLaws.{total-plus, total-same, total-times}
 use Rattle.lin_alg.specs.UnionLaws.{lower}
 
@@ -68,9 +68,9 @@ module _ (f : ExactField) (act : Action) where
 
   -- a form with the span of the rows of A(q) - 1 is the equations of Fix(q)
   pub mover-equations : (q : ℕ) (rs : List (ℕ × (ℕ → Value f))) → IsForm f.laws act.dim rs →
-      ((x : ℕ → Value f) → IsInSpan f.laws rs x ↔ IsInSpan f.laws (movers f.laws act q act.dim) x) → IsFixForm f.laws act (q ∷ []) rs
+      ((x : ℕ → Value f) → IsInSpan f.laws (row_vectors rs) x ↔ IsInSpan f.laws (movers f.laws act q act.dim) x) → IsFixForm f.laws act (q ∷ []) rs
   mover-equations q rs r e =
       form-equations f.laws act.dim (Fix f.laws act (q ∷ [])) rs r (λ v. (
-        λ k. ((movers-fixed q v).0 (vanishes-mono f.laws act.dim rs (movers f.laws act q act.dim) (λ x. (e x).1) v k), tt),
-        λ a. vanishes-mono f.laws act.dim (movers f.laws act q act.dim) rs (λ x. (e x).0) v ((movers-fixed q v).1 a.0),
+        λ k. ((movers-fixed q v).0 (vanishes-mono f.laws act.dim (row_vectors rs) (movers f.laws act q act.dim) (λ x. (e x).1) v k), tt),
+        λ a. vanishes-mono f.laws act.dim (movers f.laws act q act.dim) (row_vectors rs) (λ x. (e x).0) v ((movers-fixed q v).1 a.0),
       ))

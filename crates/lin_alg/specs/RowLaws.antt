@@ -10,7 +10,7 @@ use Rattle.std.specs.Ordering.{eq_by_cmp, is_eq}
 use Rattle.std.specs.Cmp.{Equal-is}
 use Rattle.std.proofs.lemmas.Cmp.{tied_itself}
 use Rattle.cyclo24.specs.ExactField.{ExactField, Value}
-use Rattle.lin_alg.specs.Spans.{HasRows}
+use Rattle.lin_alg.specs.Spans.{row_vectors, HasRows}
 use Rattle.lin_alg.specs.Reduced.{IsReduced, IsForm, IsWithin, PivotsBelow, ArePast, is_pivot}
 use Rattle.lin_alg.specs.FreeLaws.{AllPast, AreRising}
 use Rattle.lin_alg.specs.Rows.{vector, exact_rows, HaveWidth}
@@ -19,7 +19,7 @@ module _ {A : Type 0} (f : ExactField) (value : A → Value f) where
   pub vector-past : (xs : List A) (j : ℕ) → length xs ≤ j → vector f.laws value xs j ≡ f.laws.nought
   vector-past xs j l = get_or_past (map value xs) j f.laws.nought (rw length-map l)
 
-  width-within : (w : ℕ) (rs : List (ℕ × List A)) → HaveWidth w rs → HasRows (IsWithin f.laws w) (exact_rows f.laws value rs)
+  width-within : (w : ℕ) (rs : List (ℕ × List A)) → HaveWidth w rs → HasRows (IsWithin f.laws w) (row_vectors (exact_rows f.laws value rs))
   width-within w [] a = tt
   width-within w (r ∷ rs) a = (λ j l. let e : length r.1 ≡ w = a.1 in vector-past r.1 j (omega arith), width-within w rs a.2)
 

@@ -1,7 +1,7 @@
 // The one reduced echelon form of a span.
 ghost use Rattle.std.specs.Prelude.{◌≡◌, ◌↔◌, ◌<◌, ◌≤◌, ◌+◌, ◌∷◌, [], ℕ, true, false, Ok, Err, IfOk, OnOk, OnErr, length, map, slice_index_or};
 ghost use Rattle.cyclo24.specs.ExactField.{Value};
-ghost use Rattle.lin_alg.specs.Spans.{less, IsInSpan, AreSame};
+ghost use Rattle.lin_alg.specs.Spans.{row_vectors, less, IsInSpan, AreSame};
 ghost use Rattle.lin_alg.specs.Reduced.{IsClear};
 ghost use Rattle.lin_alg.specs.Rows.{vector, exact_rows};
 ghost use Rattle.lin_alg.specs.Equations.{dot};
@@ -194,7 +194,7 @@ impl<F: Field> Echelon<F> {
         ensures width { self.new.width ≡ self.old.width }
         ensures form { IsEchelon F.field.laws F.value self.new }
         ensures whole { OnOk result (self.new.whole ≡ true) }
-        ensures span { OnOk result (AreSame (IsSpanned F.field.laws F.value self.new) (IsInSpan F.field.laws ((0, vector F.field.laws F.value row.old) ∷ exact_rows F.field.laws F.value self.old.rows))) }
+        ensures span { OnOk result (AreSame (IsSpanned F.field.laws F.value self.new) (IsInSpan F.field.laws (vector F.field.laws F.value row.old ∷ row_vectors (exact_rows F.field.laws F.value self.old.rows)))) }
         ensures cut { OnOk result ((v : ℕ → Value F.field) → IsSolution F.field.laws F.value self.new v ↔ ((dot F.field.laws self.old.width (vector F.field.laws F.value row.old) v ≡ F.field.laws.nought) × IsSolution F.field.laws F.value self.old v)) }
         ensures grew { IfOk result (λ answer. (answer ≡ grew.Yes) ↔ (IsSpanned F.field.laws F.value self.old (vector F.field.laws F.value row.old) → ⊥)) }
         ensures stays { IfOk result (λ answer. (answer ≡ grew.No) → self.new.rows ≡ self.old.rows) }

@@ -1,6 +1,6 @@
 // Whether the rows of a matrix are independent.
 ghost use Rattle.std.specs.Prelude.{◌≡◌, ◌↔◌, ◌<◌, ◌∷◌, ℕ, true, Err, IfOk, OnOk, OnErr, length};
-ghost use Rattle.lin_alg.specs.Spans.{IsInSpan, AreSame};
+ghost use Rattle.lin_alg.specs.Spans.{row_vectors, IsInSpan, AreSame};
 ghost use Rattle.lin_alg.specs.Rows.{vector, exact_rows};
 ghost use Rattle.lin_alg.specs.Insertion.{IsWideInsert};
 ghost use Rattle.lin_alg.specs.Echelon.{IsEchelon, IsSpanned};
@@ -65,7 +65,7 @@ fn insert_matrix_row<F: Field, L: Ledger>(
     ensures width { form.new.width ≡ form.old.width }
     ensures whole { OnOk result (form.new.whole ≡ true) }
     ensures form { IsEchelon F.field.laws F.value form.new }
-    ensures span { OnOk result (AreSame (IsSpanned F.field.laws F.value form.new) (IsInSpan F.field.laws ((0, entry_of F.field.laws F.value rows.now i) ∷ exact_rows F.field.laws F.value form.old.rows))) }
+    ensures span { OnOk result (AreSame (IsSpanned F.field.laws F.value form.new) (IsInSpan F.field.laws (entry_of F.field.laws F.value rows.now i ∷ row_vectors (exact_rows F.field.laws F.value form.old.rows)))) }
     ensures grew { IfOk result (λ answer. (answer ≡ grew.Yes) ↔ (IsSpanned F.field.laws F.value form.old (entry_of F.field.laws F.value rows.now i) → ⊥)) }
     ensures wide { (result ≡ Err lin_error.Wide) → IsWideInsert F.field (exact_rows F.field.laws F.value form.old.rows) (entry_of F.field.laws F.value rows.now i) }
 {

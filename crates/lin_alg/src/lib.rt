@@ -26,7 +26,7 @@ pub use errors::LinError;
 pub use independent::are_independent;
 pub use laws::{
     law_of_equal_forms, law_of_equal_values, law_of_equations, law_of_fixed_vectors, law_of_images,
-    law_of_no_forms, law_of_unions, law_of_unique_forms,
+    law_of_matrices, law_of_no_forms, law_of_unions, law_of_unique_forms,
 };
 pub use matrix::{Matrix, add_product, are_equal};
 pub use memory::zeros;

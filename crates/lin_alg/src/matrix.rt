@@ -10,11 +10,10 @@ mod equal;
 use crate::LinError;
 use crate::memory::zeros;
 use cyclo24::{Field, Wide};
+pub use equal::are_equal;
 use iso_text::NoMemory;
 use std::alloc::Global;
 use std::marker::Model;
-
-pub use equal::are_equal;
 
 /// A matrix of field values. Rows and columns are numbered from 0.
 #[derive(Drop)]

@@ -1,7 +1,7 @@
 // Solving systems of linear equations.
 ghost use Rattle.std.specs.Prelude.{◌≡◌, ◌<◌, ◌≤◌, ◌+◌, ◌∷◌, ℕ, true, Err, None, IfOk, IfSome, OnOk, length};
 ghost use Rattle.cyclo24.specs.ExactField.{Value};
-ghost use Rattle.lin_alg.specs.Spans.{IsInSpan, AreSame};
+ghost use Rattle.lin_alg.specs.Spans.{row_vectors, IsInSpan, AreSame};
 ghost use Rattle.lin_alg.specs.Rows.{vector, exact_rows};
 ghost use Rattle.lin_alg.specs.Equations.{unit_vector};
 ghost use Rattle.lin_alg.specs.Insertion.{IsWideInsert};
@@ -150,7 +150,7 @@ fn insert_joined<F: Field, L: Ledger>(
     ensures width { form.new.width ≡ form.old.width }
     ensures whole { OnOk result (form.new.whole ≡ true) }
     ensures form { IsEchelon F.field.laws F.value form.new }
-    ensures span { OnOk result (AreSame (IsSpanned F.field.laws F.value form.new) (IsInSpan F.field.laws ((0, joined rows.now.rows (unit_vector F.field.laws i) (entry_of F.field.laws F.value rows.now i)) ∷ exact_rows F.field.laws F.value form.old.rows))) }
+    ensures span { OnOk result (AreSame (IsSpanned F.field.laws F.value form.new) (IsInSpan F.field.laws (joined rows.now.rows (unit_vector F.field.laws i) (entry_of F.field.laws F.value rows.now i) ∷ row_vectors (exact_rows F.field.laws F.value form.old.rows)))) }
     ensures wide { (result ≡ Err lin_error.Wide) → IsWideInsert F.field (exact_rows F.field.laws F.value form.old.rows) (joined rows.now.rows (unit_vector F.field.laws i) (entry_of F.field.laws F.value rows.now i)) }
 {
     fill_joined(row, rows, i);

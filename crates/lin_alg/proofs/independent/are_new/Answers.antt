@@ -1,6 +1,6 @@
 use Rattle.std.proofs.Common.{◌≡◌, ◌<◌, ◌≤◌, ℕ, suc, sym, ◌∙◌, refl, true, false, add-one, subst, arith}
 use Rattle.lin_alg.specs.declared.echelon.Grew.TheVariants.{Yes, No}
-use Rattle.lin_alg.specs.Spans.{IsInSpan, AreSame}
+use Rattle.lin_alg.specs.Spans.{row_vectors, IsInSpan, AreSame}
 use Rattle.lin_alg.specs.Rows.{exact_rows}
 use Rattle.lin_alg.specs.Matrix.{entry}
 use Rattle.lin_alg.specs.Solving.{AreIndependent, plain_rows}
@@ -30,9 +30,9 @@ loop-i-preserved g c =
     let v = g.F.Field.value in
     let m = c.args.rows.now in
     let i = c.loop-i.i in
-    let row : ℕ × (ℕ → _) = (0, entry f.laws v m i) in
-    let more = same-more f.laws (exact_rows f.laws v c.loop-i.form.rows) (plain_rows (entry f.laws v m) i) row row refl c.loop-i.invariant.3 in
-    let span : AreSame (IsInSpan f.laws (exact_rows f.laws v c.insert_matrix_row.new.form.rows)) (IsInSpan f.laws (plain_rows (entry f.laws v m) (suc i))) =
+    let row : ℕ → _ = entry f.laws v m i in
+    let more = same-more f.laws (row_vectors (exact_rows f.laws v c.loop-i.form.rows)) (plain_rows (entry f.laws v m) i) row row refl c.loop-i.invariant.3 in
+    let span : AreSame (IsInSpan f.laws (row_vectors (exact_rows f.laws v c.insert_matrix_row.new.form.rows))) (IsInSpan f.laws (plain_rows (entry f.laws v m) (suc i))) =
     λ u. (λ h. (more u).0 ((c.in-Ok-Yes.ensures.span u).0 h), λ h. (c.in-Ok-Yes.ensures.span u).1 ((more u).1 h)) in
     let out : IsInSpan f.laws (plain_rows (entry f.laws v m) i) (entry f.laws v m i) → ⊥ =
     λ h. c.in-Ok-Yes.ensures.grew.0 c.in-Ok-Yes.field-0-is ((c.loop-i.invariant.3 (entry f.laws v m i)).1 h) in
@@ -40,7 +40,7 @@ loop-i-preserved g c =
       c.in-Ok-Yes.ensures.width ∙ c.loop-i.invariant.0,
       c.in-Ok-Yes.ensures.whole,
       c.in-Ok-Yes.ensures.form,
-      subst (λ (k : ℕ). AreSame (IsInSpan f.laws (exact_rows f.laws v c.insert_matrix_row.new.form.rows)) (IsInSpan f.laws (plain_rows (entry f.laws v m) k))) (sym (add-one i)) span,
+      subst (λ (k : ℕ). AreSame (IsInSpan f.laws (row_vectors (exact_rows f.laws v c.insert_matrix_row.new.form.rows))) (IsInSpan f.laws (plain_rows (entry f.laws v m) k))) (sym (add-one i)) span,
       c.loop-i.invariant.4,
       subst (λ (k : ℕ). AreIndependent f.laws k (entry f.laws v m)) (sym (add-one i)) ind,
     )

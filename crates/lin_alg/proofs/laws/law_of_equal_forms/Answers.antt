@@ -1,5 +1,5 @@
 use Rattle.std.proofs.Common.{◌≡◌, ℕ, List, sym, subst}
-use Rattle.lin_alg.specs.Spans.{IsInSpan}
+use Rattle.lin_alg.specs.Spans.{row_vectors, IsInSpan}
 use Rattle.lin_alg.specs.SpanLaws.{reduced-unique}
 use Rattle.lin_alg.specs.Rows.{exact_rows, HaveWidth}
 use Rattle.lin_alg.specs.RowLaws.{equality-told}
@@ -24,7 +24,7 @@ returns-clause-spans g c a b ea eb wa wb w =
     let rb = (eb.form wb).reduced in (
       λ h.
           let e : exact_rows f.laws v a.rows ≡ exact_rows f.laws v b.rows = equal-lines f v g.F.PartialEq.eq tells a.rows b.rows ra rb h in
-          λ u. (λ m. subst (λ (z : List (ℕ × (ℕ → _))). IsInSpan f.laws z u) e m, λ m. subst (λ (z : List (ℕ × (ℕ → _))). IsInSpan f.laws z u) (sym e) m),
+          λ u. (λ m. subst (λ (z : List (ℕ × (ℕ → _))). IsInSpan f.laws (row_vectors z) u) e m, λ m. subst (λ (z : List (ℕ × (ℕ → _))). IsInSpan f.laws (row_vectors z) u) (sym e) m),
       λ s. lines-equal f v g.F.PartialEq.eq tells a.width a.rows b.rows ea.shape (subst (λ (n : ℕ). HaveWidth n b.rows) (sym w) eb.shape)
           (reduced-unique f.laws (exact_rows f.laws v a.rows) (exact_rows f.laws v b.rows) ra rb (λ u. (s u).0) (λ u. (s u).1)),
     )

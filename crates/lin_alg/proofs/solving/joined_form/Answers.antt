@@ -1,5 +1,5 @@
 use Rattle.std.proofs.Common.{◌≡◌, ◌<◌, ℕ, suc, sym, ◌∙◌, refl, add-one, subst, inl, arith}
-use Rattle.lin_alg.specs.Spans.{IsInSpan, AreSame}
+use Rattle.lin_alg.specs.Spans.{row_vectors, IsInSpan, AreSame}
 use Rattle.lin_alg.specs.Rows.{exact_rows}
 use Rattle.lin_alg.specs.Echelon.{IsSpanned}
 use Rattle.lin_alg.specs.Matrix.{entry}
@@ -14,14 +14,14 @@ loop-i-preserved g c =
     let v = g.F.Field.value in
     let m = c.args.rows.now in
     let i = c.loop-i.i in
-    let row : ℕ × (ℕ → _) = (0, joined m.rows (unit_vector f.laws i) (entry f.laws v m i)) in
-    let more = same-more f.laws (exact_rows f.laws v c.loop-i.form.rows) (joined_rows f.laws m.rows (entry f.laws v m) i) row row refl c.loop-i.invariant.3 in
-    let span : AreSame (IsInSpan f.laws (exact_rows f.laws v c.insert_joined.new.form.rows)) (IsInSpan f.laws (joined_rows f.laws m.rows (entry f.laws v m) (suc i))) =
+    let row : ℕ → _ = joined m.rows (unit_vector f.laws i) (entry f.laws v m i) in
+    let more = same-more f.laws (row_vectors (exact_rows f.laws v c.loop-i.form.rows)) (joined_rows f.laws m.rows (entry f.laws v m) i) row row refl c.loop-i.invariant.3 in
+    let span : AreSame (IsInSpan f.laws (row_vectors (exact_rows f.laws v c.insert_joined.new.form.rows))) (IsInSpan f.laws (joined_rows f.laws m.rows (entry f.laws v m) (suc i))) =
     λ u. (λ h. (more u).0 ((c.in-Ok.ensures.span u).0 h), λ h. (c.in-Ok.ensures.span u).1 ((more u).1 h)) in (
       c.in-Ok.ensures.width ∙ c.loop-i.invariant.0,
       c.in-Ok.ensures.whole,
       c.in-Ok.ensures.form,
-      subst (λ (k : ℕ). AreSame (IsInSpan f.laws (exact_rows f.laws v c.insert_joined.new.form.rows)) (IsInSpan f.laws (joined_rows f.laws m.rows (entry f.laws v m) k))) (sym (add-one i)) span,
+      subst (λ (k : ℕ). AreSame (IsInSpan f.laws (row_vectors (exact_rows f.laws v c.insert_joined.new.form.rows))) (IsInSpan f.laws (joined_rows f.laws m.rows (entry f.laws v m) k))) (sym (add-one i)) span,
       c.loop-i.invariant.4,
     )
 

@@ -1,5 +1,5 @@
 use Rattle.std.proofs.Common.{◌≡◌, ◌+◌, ◌<◌, ℕ, sym, ◌∙◌, ap, subst, inr, IfSome}
-use Rattle.lin_alg.specs.Spans.{less, IsInSpan}
+use Rattle.lin_alg.specs.Spans.{row_vectors, less, IsInSpan}
 use Rattle.lin_alg.specs.Rows.{vector, exact_rows}
 use Rattle.lin_alg.specs.Matrix.{entry}
 use Rattle.lin_alg.specs.Insertion.{IsWideReduce}
@@ -28,7 +28,7 @@ returns-in-Some-clause-solution g c j =
     let r = vector f.laws v c.reduce.new.row in
     let rs = exact_rows f.laws v c.args.form.now.rows in
     let place : vector f.laws v c.place_target.new.row ≡ joined m.rows (λ _. f.laws.nought) t = c.place_target.ensures ∙ ap (λ k. joined k (λ _. f.laws.nought) t) en in
-    let differs : IsInSpan f.laws rs (less f.laws (joined m.rows (λ _. f.laws.nought) t) f.laws.unit r) = subst (λ (x : ℕ → _). IsInSpan f.laws rs (less f.laws x f.laws.unit r)) place c.in-Ok.ensures.differs in
+    let differs : IsInSpan f.laws (row_vectors rs) (less f.laws (joined m.rows (λ _. f.laws.nought) t) f.laws.unit r) = subst (λ (x : ℕ → _). IsInSpan f.laws (row_vectors rs) (less f.laws x f.laws.unit r)) place c.in-Ok.ensures.differs in
     let front : (i : ℕ) → i < c.rows-n.result → vector f.laws v c.in-Some.x i ≡ f.laws.neg (r i) =
     subst (λ o. IfSome o (λ x. (i : ℕ) → i < c.rows-n.result → vector f.laws v x i ≡ f.laws.neg (r i))) c.in-Some.is c.in_ok-x.ensures.front in
     let zero : (i : ℕ) → r (c.rows-n.result + i) ≡ f.laws.nought = subst (λ o. IfSome o (λ _. (i : ℕ) → r (c.rows-n.result + i) ≡ f.laws.nought)) c.in-Some.is c.in_ok-x.ensures.zero in
@@ -45,7 +45,7 @@ returns-in-Some-clause-only g c y h i l =
     let r = vector f.laws v c.reduce.new.row in
     let rs = exact_rows f.laws v c.args.form.now.rows in
     let place : vector f.laws v c.place_target.new.row ≡ joined m.rows (λ _. f.laws.nought) t = c.place_target.ensures ∙ ap (λ k. joined k (λ _. f.laws.nought) t) en in
-    let differs : IsInSpan f.laws rs (less f.laws (joined m.rows (λ _. f.laws.nought) t) f.laws.unit r) = subst (λ (x : ℕ → _). IsInSpan f.laws rs (less f.laws x f.laws.unit r)) place c.in-Ok.ensures.differs in
+    let differs : IsInSpan f.laws (row_vectors rs) (less f.laws (joined m.rows (λ _. f.laws.nought) t) f.laws.unit r) = subst (λ (x : ℕ → _). IsInSpan f.laws (row_vectors rs) (less f.laws x f.laws.unit r)) place c.in-Ok.ensures.differs in
     let front : (i : ℕ) → i < c.rows-n.result → vector f.laws v c.in-Some.x i ≡ f.laws.neg (r i) =
     subst (λ o. IfSome o (λ x. (i : ℕ) → i < c.rows-n.result → vector f.laws v x i ≡ f.laws.neg (r i))) c.in-Some.is c.in_ok-x.ensures.front in
     let zero : (i : ℕ) → r (c.rows-n.result + i) ≡ f.laws.nought = subst (λ o. IfSome o (λ _. (i : ℕ) → r (c.rows-n.result + i) ≡ f.laws.nought)) c.in-Some.is c.in_ok-x.ensures.zero in
@@ -64,7 +64,7 @@ returns-in-None-clause-none g c _ y h =
     let r = vector f.laws v c.reduce.new.row in
     let rs = exact_rows f.laws v c.args.form.now.rows in
     let place : vector f.laws v c.place_target.new.row ≡ joined m.rows (λ _. f.laws.nought) t = c.place_target.ensures ∙ ap (λ k. joined k (λ _. f.laws.nought) t) en in
-    let differs : IsInSpan f.laws rs (less f.laws (joined m.rows (λ _. f.laws.nought) t) f.laws.unit r) = subst (λ (x : ℕ → _). IsInSpan f.laws rs (less f.laws x f.laws.unit r)) place c.in-Ok.ensures.differs in
+    let differs : IsInSpan f.laws (row_vectors rs) (less f.laws (joined m.rows (λ _. f.laws.nought) t) f.laws.unit r) = subst (λ (x : ℕ → _). IsInSpan f.laws (row_vectors rs) (less f.laws x f.laws.unit r)) place c.in-Ok.ensures.differs in
     let zero : (i : ℕ) → r (m.rows + i) ≡ f.laws.nought =
     no-solution f.laws m.rows (entry f.laws v m) c.requires.independent rs (c.requires.form.form c.requires.whole).reduced c.requires.span t r differs c.in-Ok.ensures.clear y h in
     c.in_ok-x.ensures.none c.in-None.is (λ i. ap (λ k. r (k + i)) en ∙ zero i)

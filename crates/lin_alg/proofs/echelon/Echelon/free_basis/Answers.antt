@@ -1,4 +1,5 @@
 use Rattle.std.proofs.Common.{◌≡◌, ◌<◌, ◌+◌, ◌-◌, ◌*◌, ◌^◌, arith, ℕ, List, map, length, sym, ◌∙◌, ap, subst, true, false}
+use Rattle.lin_alg.specs.Spans.{row_vectors}
 use Rattle.std.specs.List.{slice_index}
 use Rattle.lin_alg.specs.Reduced.{IsForm, is_pivot, free_columns}
 use Rattle.lin_alg.specs.Rows.{exact_rows}
@@ -68,7 +69,7 @@ returns-clause-vanishes g c i l =
     let form : IsForm f.laws W (exact_rows f.laws v R) =
     subst (λ (e : EchelonView _). e.whole ≡ true → IsForm f.laws e.width (exact_rows f.laws v e.rows)) c.self.view_is c.self.invariant.2.form c.requires.whole in
     let own : ℕ = slice_index (free_columns W R) i in
-    subst (λ (u : ℕ → _). Vanishes f.laws W (exact_rows f.laws v R) u) (sym (funext (vectors i l)))
+    subst (λ (u : ℕ → _). Vanishes f.laws W (row_vectors (exact_rows f.laws v R)) u) (sym (funext (vectors i l)))
     (free-vanishes f.laws W (exact_rows f.laws v R) own (free_columns-at W R i (inside i l)).0 form.pivots form.reduced)
 
 pub new-requires : goal.new-requires
