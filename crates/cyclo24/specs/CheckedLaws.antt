@@ -2,6 +2,7 @@
 --
 -- below_wide, at_least_wide, narrow_abs: is_wide by the absolute value
 -- then_ok, then_err, answer_give: the answer of a computation in steps
+-- quotient_below: a quotient is no larger
 -- answer_ok, answer_err: what an answer says of the written numbers
 use Rattle.std.proofs.Common.{◌≡◌, ℕ, ◌^◌, ◌<◌, ◌≤◌, Bool, true, false, arith, ℤ, refl, le_trans, lit≤, List, [], ◌∷◌, ◌++◌, ap, ◌∙◌, sym, Result, Ok, Err, cond}
 use Rattle.std.specs.Prelude.{FitsSigned, ◌||◌, pos, negsuc, ◌-ℤ◌, ◌+ℤ◌, ◌*ℤ◌, neg_ℤ, suc, ◌/◌}
@@ -146,7 +147,7 @@ written_narrow z e = or_left (is_wide z) false e
 negated : (n : ℕ) → unsigned_abs (neg_ℤ (pos n)) ≡ n
 negated n = omega (arith, ints)
 
-quotient_below : (z : ℤ) (g : ℕ) → unsigned_abs (quotient z g) ≤ unsigned_abs z
+pub quotient_below : (z : ℤ) (g : ℕ) → unsigned_abs (quotient z g) ≤ unsigned_abs z
 quotient_below (pos n) g = let h : n / g ≤ n = div-le_self n g in omega arith
 quotient_below (negsuc n) g = let h : suc n / g ≤ suc n = div-le_self (suc n) g in omega (arith, ints, negated (suc n / g))
 

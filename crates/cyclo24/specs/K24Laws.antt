@@ -1,8 +1,9 @@
 -- What the calls on values of Q(sqrt 2, sqrt 3) give.
 --
+-- low_positive, size_positive: what a number in lowest terms says
 -- product24, sum24, difference24, inverse24: what is reduced is the exact result
 -- negated24, zero24, one24: the other operations
-use Rattle.std.proofs.Common.{◌≡◌, ◌≢◌, ◌<◌, ◌*◌, ◌/◌, ℕ, refl, sym, ap, ◌∙◌, subst, arith, rules, ℤ, pos, negsuc, neg_ℤ, ◌+ℤ◌, ◌*ℤ◌, [], ◌∷◌, map, Bool, true, false, Ok, le_trans, lit≤}
+use Rattle.std.proofs.Common.{◌≡◌, ◌≢◌, ◌<◌, ◌*◌, ◌/◌, ℕ, refl, sym, ap, ◌∙◌, subst, arith, rules, ℤ, pos, negsuc, neg_ℤ, ◌+ℤ◌, ◌*ℤ◌, [], ◌∷◌, map, Bool, true, false, le_trans, lit≤}
 use Rattle.std.specs.Prelude.{cond, int_lt}
 use Rattle.std.specs.Int.RustNames.{unsigned_abs}
 use Rattle.std.proofs.lemmas.Int.{ints, unsigned_abs-mul}
@@ -20,10 +21,10 @@ use Rattle.cyclo24.specs.FourNorm.{whole4, four, four_is, list4, by_sign, norm_z
 use Rattle.cyclo24.specs.Listed.{is_exact, is_positive}
 use Rattle.cyclo24.specs.ListedLaws.{exact_is, positive_abs, same_exact, is_nought-is}
 use Rattle.cyclo24.specs.ExactLaws.{plus-is, neg-is, neg-list, times-is, inverse-is, nought-is, unit-is}
-use Rattle.cyclo24.specs.Checked.{is_wide, answer}
-use Rattle.cyclo24.specs.CheckedLaws.{answer_ok, neg_narrow, below_wide}
+use Rattle.cyclo24.specs.Checked.{is_wide}
+use Rattle.cyclo24.specs.CheckedLaws.{neg_narrow, below_wide}
 use Rattle.cyclo24.specs.Written4.{numbers4, numerators4, four_of, IsNarrow4, sum, product, inverse, negated, upright, minus}
-use Rattle.cyclo24.specs.Written4Values.{product_value, sum_value, inverse_value, times4, product_narrow, sum_narrow, inverse_narrow}
+use Rattle.cyclo24.specs.Written4Values.{product_value, sum_value, inverse_value, times4}
 use Rattle.cyclo24.specs.ExactK24.{Exact24, k24_laws}
 
 -- in lowest terms over a denominator above 0
@@ -48,34 +49,13 @@ made_low r x e = ap (is_exact 4) e ∙ x.1
 pub made_value : (r : Fraction4) (x : Exact24) → numbers4 r ≡ x.0 → (h : IsLow r) → exact_of r h ≡ x
 made_value r x e h = same_exact (exact_of r h) x e
 
-product_positive : (x y : ℤ) → is_positive x ≡ true → is_positive y ≡ true → is_positive (x *ℤ y) ≡ true
-product_positive (pos m) (pos n) h k = by_parts m n (positive_abs (pos m) h).0 (positive_abs (pos n) k).0
-  where
-    mul_above : (m n : ℕ) → 0 < m → 0 < n → 0 < m * n
-    mul_above m n p q = grind arith
-
-    positive_pos : (n : ℕ) → 0 < n → is_positive (pos n) ≡ true
-    positive_pos n h = search rules
-
-    by_parts : (m n : ℕ) → 0 < m → 0 < n → is_positive (pos m *ℤ pos n) ≡ true
-    by_parts m n p q = positive_pos (m * n) (mul_above m n p q)
-product_positive (pos m) (negsuc n) h k = absurd (cc)
-product_positive (negsuc m) y h k = absurd (cc)
-
 -- products
 
-pub product_ready : (a b r : Fraction4) → IsLow a → IsLow b → answer (product a b) ≡ Ok r → IsNarrow4 r × (is_positive r.d.n ≡ true)
-product_ready a b r h k e =
-    let f = answer_ok (product a b) r e in
-    let d : r.d.n ≡ a.d.n *ℤ b.d.n = ap (λ (s : Fraction4). s.d.n) (sym f.1) ∙ (product_value a b).1 in
-    (subst IsNarrow4 f.1 (product_narrow a b f.0), ap is_positive d ∙ product_positive a.d.n b.d.n (low_positive a h) (low_positive b k))
-
-pub product24 : (a b r s : Fraction4) (h : IsLow a) (k : IsLow b) → answer (product a b) ≡ Ok r → numbers4 s ≡ lowest_terms (numerators4 r) (unsigned_abs r.d.n) → numbers4 s ≡ (k24_laws.times (exact_of a h) (exact_of b k)).0
+pub product24 : (a b r s : Fraction4) (h : IsLow a) (k : IsLow b) → (product a b).value ≡ r → numbers4 s ≡ lowest_terms (numerators4 r) (unsigned_abs r.d.n) → numbers4 s ≡ (k24_laws.times (exact_of a h) (exact_of b k)).0
 product24 a b r s h k e q =
-    let f = answer_ok (product a b) r e in
     let v = product_value a b in
-    let n : numerators4 r ≡ list4 (mul4 whole (four_of a) (four_of b)) = ap numerators4 (sym f.1) ∙ v.0 in
-    let d : unsigned_abs r.d.n ≡ unsigned_abs a.d.n * unsigned_abs b.d.n = ap (λ (s : Fraction4). unsigned_abs s.d.n) (sym f.1) ∙ ap unsigned_abs v.1 ∙ unsigned_abs-mul a.d.n b.d.n in
+    let n : numerators4 r ≡ list4 (mul4 whole (four_of a) (four_of b)) = ap numerators4 (sym e) ∙ v.0 in
+    let d : unsigned_abs r.d.n ≡ unsigned_abs a.d.n * unsigned_abs b.d.n = ap (λ (s : Fraction4). unsigned_abs s.d.n) (sym e) ∙ ap unsigned_abs v.1 ∙ unsigned_abs-mul a.d.n b.d.n in
     q ∙ (λ i. lowest_terms (n i) (d i)) ∙ sym (times-is whole4 four four_is (exact_of a h) (exact_of b k))
 
 -- sums
@@ -94,34 +74,22 @@ quotient_upright : (z : ℤ) (g : ℕ) → is_positive z ≡ true → quotient z
 quotient_upright (pos n) g h = refl
 quotient_upright (negsuc n) g h = absurd (cc)
 
-pub sum_ready : (f : Whole) (a b r : Fraction4) → IsLow a → IsLow b → answer (sum f a b) ≡ Ok r → IsNarrow4 r × (is_positive r.d.n ≡ true)
-sum_ready f a b r h k e =
-    let g = gcd (unsigned_abs a.d.n) (unsigned_abs b.d.n) in
-    let q : Whole = record { n = quotient b.d.n g } in
-    let p : Whole = record { n = quotient a.d.n g } in
-    let t = answer_ok (sum f a b) r e in
-    let d : r.d.n ≡ a.d.n *ℤ quotient b.d.n g = ap (λ (s : Fraction4). s.d.n) (sym t.1) ∙ (sum_value f a q b p).1 in (
-      subst IsNarrow4 t.1 (sum_narrow f a q b p t.0),
-      ap is_positive d ∙ product_positive a.d.n (quotient b.d.n g) (low_positive a h) (quotient_positive b.d.n g (low_positive b k) (gcd_is (unsigned_abs a.d.n) (unsigned_abs b.d.n)).1),
-    )
-
 -- the numerators and the denominator of a sum
-sum_parts : (f : Whole) (a b r : Fraction4) → IsLow a → IsLow b → answer (sum f a b) ≡ Ok r → let q = pos (over_gcd b a b) in let p = pos (over_gcd a a b) in let c : ℤ → ℤ → ℤ = λ x y. q *ℤ x +ℤ f.n *ℤ (p *ℤ y) in
+sum_parts : (f : Whole) (a b r : Fraction4) → IsLow a → IsLow b → (sum f a b).value ≡ r → let q = pos (over_gcd b a b) in let p = pos (over_gcd a a b) in let c : ℤ → ℤ → ℤ = λ x y. q *ℤ x +ℤ f.n *ℤ (p *ℤ y) in
     (numerators4 r ≡ c a.a0.n b.a0.n ∷ c a.a1.n b.a1.n ∷ c a.a2.n b.a2.n ∷ c a.a3.n b.a3.n ∷ []) × (unsigned_abs r.d.n ≡ unsigned_abs a.d.n * over_gcd b a b)
 sum_parts f a b r h k e =
     let g = gcd (unsigned_abs a.d.n) (unsigned_abs b.d.n) in
     let q : Whole = record { n = quotient b.d.n g } in
     let p : Whole = record { n = quotient a.d.n g } in
-    let t = answer_ok (sum f a b) r e in
     let v = sum_value f a q b p in
     let qe = quotient_upright b.d.n g (low_positive b k) in
     let pe = quotient_upright a.d.n g (low_positive a h) in (
-      ap numerators4 (sym t.1) ∙ v.0
+      ap numerators4 (sym e) ∙ v.0
           ∙ (λ i. (qe i *ℤ a.a0.n +ℤ f.n *ℤ (pe i *ℤ b.a0.n)) ∷ (qe i *ℤ a.a1.n +ℤ f.n *ℤ (pe i *ℤ b.a1.n)) ∷ (qe i *ℤ a.a2.n +ℤ f.n *ℤ (pe i *ℤ b.a2.n)) ∷ (qe i *ℤ a.a3.n +ℤ f.n *ℤ (pe i *ℤ b.a3.n)) ∷ []),
-      ap (λ (s : Fraction4). unsigned_abs s.d.n) (sym t.1) ∙ ap unsigned_abs v.1 ∙ ap (λ z. unsigned_abs (a.d.n *ℤ z)) qe ∙ unsigned_abs-mul a.d.n (pos (over_gcd b a b)),
+      ap (λ (s : Fraction4). unsigned_abs s.d.n) (sym e) ∙ ap unsigned_abs v.1 ∙ ap (λ z. unsigned_abs (a.d.n *ℤ z)) qe ∙ unsigned_abs-mul a.d.n (pos (over_gcd b a b)),
     )
 
-pub sum24 : (a b r s : Fraction4) (h : IsLow a) (k : IsLow b) → answer (sum (record { n = pos 1 }) a b) ≡ Ok r → numbers4 s ≡ lowest_terms (numerators4 r) (unsigned_abs r.d.n) → numbers4 s ≡ (k24_laws.plus (exact_of a h) (exact_of b k)).0
+pub sum24 : (a b r s : Fraction4) (h : IsLow a) (k : IsLow b) → (sum (record { n = pos 1 }) a b).value ≡ r → numbers4 s ≡ lowest_terms (numerators4 r) (unsigned_abs r.d.n) → numbers4 s ≡ (k24_laws.plus (exact_of a h) (exact_of b k)).0
 sum24 a b r s h k e l =
     let v = sum_parts one_whole a b r h k e in
     let q = pos (over_gcd b a b) in let p = pos (over_gcd a a b) in
@@ -131,13 +99,13 @@ sum24 a b r s h k e l =
     ∙ sym (plus-is whole4 four four_is (exact_of a h) (exact_of b k))
 
 -- the negative of an exact value as a list
-neg_parts : (b : Fraction4) (k : IsLow b) → (k24_laws.neg (exact_of b k)).0 ≡ numbers4 (negated b)
+pub neg_parts : (b : Fraction4) (k : IsLow b) → (k24_laws.neg (exact_of b k)).0 ≡ numbers4 (negated b)
 neg_parts b k = neg-is whole4 four four_is (exact_of b k) ∙ neg-list whole4 four four_is (exact_of b k)
 
 minus_times : (p y : ℤ) → negsuc 0 *ℤ (p *ℤ y) ≡ p *ℤ neg_ℤ y
 minus_times p y = let e : negsuc 0 *ℤ (p *ℤ y) ≡ neg_ℤ (p *ℤ y) = omega (arith, ints) in e ∙ sym (mul_neg whole whole_ring p y)
 
-pub difference24 : (a b r s : Fraction4) (h : IsLow a) (k : IsLow b) → answer (sum (record { n = negsuc 0 }) a b) ≡ Ok r → numbers4 s ≡ lowest_terms (numerators4 r) (unsigned_abs r.d.n)
+pub difference24 : (a b r s : Fraction4) (h : IsLow a) (k : IsLow b) → (sum (record { n = negsuc 0 }) a b).value ≡ r → numbers4 s ≡ lowest_terms (numerators4 r) (unsigned_abs r.d.n)
     → numbers4 s ≡ (k24_laws.plus (exact_of a h) (k24_laws.neg (exact_of b k))).0
 difference24 a b r s h k e l =
     let v = sum_parts minus_one a b r h k e in
@@ -199,13 +167,8 @@ upright_by r (negsuc n) e d x f =
       ap (λ (s : Fraction4). unsigned_abs s.d.n) c ∙ abs_neg r.d.n ∙ ap unsigned_abs e,
     )
 
-upright_narrow : (r : Fraction4) → IsNarrow4 r → IsNarrow4 (upright r)
-upright_narrow r h = by_test (λ b. IsNarrow4 (cond b (record { d = minus r.d; a0 = minus r.a0; a1 = minus r.a1; a2 = minus r.a2; a3 = minus r.a3 }) r)) (int_lt r.d.n (pos 0))
-    (λ _. record { narrow0 = neg_narrow r.a0.n h.narrow0; narrow1 = neg_narrow r.a1.n h.narrow1; narrow2 = neg_narrow r.a2.n h.narrow2; narrow3 = neg_narrow r.a3.n h.narrow3; narrow = neg_narrow r.d.n h.narrow })
-    (λ _. h)
-
 -- a number that isn't 0 has a norm that isn't 0
-size_positive : (a : Fraction4) (h : IsLow a) → k24_laws.is_nought (exact_of a h) ≡ false → 0 < unsigned_abs (norm4 whole (four_of a))
+pub size_positive : (a : Fraction4) (h : IsLow a) → k24_laws.is_nought (exact_of a h) ≡ false → 0 < unsigned_abs (norm4 whole (four_of a))
 size_positive a h e = positive_unless (unsigned_abs (norm4 whole (four_of a))) (λ z. apart (all_zero (numerators4 a)) (zero_all (four_of a) (norm_zero (four_of a) z)) (is_zero24 a h ∙ e))
   where
     positive_unless : (n : ℕ) → n ≢ 0 → 0 < n
@@ -217,33 +180,13 @@ size_positive a h e = positive_unless (unsigned_abs (norm4 whole (four_of a))) (
     zero_all : (x : Four ℤ) → x ≡ num4 whole (pos 0) → all_zero (list4 x) ≡ true
     zero_all x e = ap (λ y. all_zero (list4 y)) e
 
-upright_positive : (z : ℤ) → 0 < unsigned_abs z → is_positive (cond (int_lt z (pos 0)) (neg_ℤ z) z) ≡ true
-upright_positive (pos n) h = search rules
-upright_positive (negsuc n) h = search rules
-
-pub inverse_answered : (a r : Fraction4) → answer (inverse a) ≡ Ok r → IsNarrow4 r
-inverse_answered a r e = let f = answer_ok (inverse a) r e in subst IsNarrow4 f.1 (inverse_narrow a f.0)
-
-pub inverse_ready : (a r s : Fraction4) (h : IsLow a) → k24_laws.is_nought (exact_of a h) ≡ false → answer (inverse a) ≡ Ok r → s ≡ upright r → IsNarrow4 s × (is_positive s.d.n ≡ true)
-inverse_ready a r s h z e u =
-    let f = answer_ok (inverse a) r e in
-    let n : r.d.n ≡ norm4 whole (four_of a) = ap (λ (s : Fraction4). s.d.n) (sym f.1) ∙ (inverse_value a).1 in
-    let positive : 0 < unsigned_abs r.d.n = subst (λ z. 0 < unsigned_abs z) (sym n) (size_positive a h z) in
-    (subst IsNarrow4 (sym u) (upright_narrow r (subst IsNarrow4 f.1 (inverse_narrow a f.0))), ap (λ (s : Fraction4). is_positive s.d.n) u ∙ upright_low r positive)
-  where
-    upright_low : (r : Fraction4) → 0 < unsigned_abs r.d.n → is_positive (upright r).d.n ≡ true
-    upright_low r h = by_test (λ b. int_lt r.d.n (pos 0) ≡ b → is_positive (cond b (record { d = minus r.d; a0 = minus r.a0; a1 = minus r.a1; a2 = minus r.a2; a3 = minus r.a3 }) r).d.n ≡ true) (int_lt r.d.n (pos 0))
-        (λ e _. ap (λ b. is_positive (cond b (neg_ℤ r.d.n) r.d.n)) (sym e) ∙ upright_positive r.d.n h)
-        (λ e _. ap (λ b. is_positive (cond b (neg_ℤ r.d.n) r.d.n)) (sym e) ∙ upright_positive r.d.n h) refl
-
-pub inverse24 : (a r u s : Fraction4) (h : IsLow a) → k24_laws.is_nought (exact_of a h) ≡ false → answer (inverse a) ≡ Ok r → u ≡ upright r → numbers4 s ≡ lowest_terms (numerators4 u) (unsigned_abs u.d.n)
+pub inverse24 : (a r u s : Fraction4) (h : IsLow a) → k24_laws.is_nought (exact_of a h) ≡ false → (inverse a).value ≡ r → u ≡ upright r → numbers4 s ≡ lowest_terms (numerators4 u) (unsigned_abs u.d.n)
     → numbers4 s ≡ (k24_laws.inverse (exact_of a h)).0
 inverse24 a r u s h z e w l =
-    let f = answer_ok (inverse a) r e in
     let v = inverse_value a in
     let x = four_of a in
     let n = norm4 whole x in
-    let t = upright_by r n (ap (λ (s : Fraction4). s.d.n) (sym f.1) ∙ v.1) a.d.n (adj4 whole x) (ap numerators4 (sym f.1) ∙ v.0) in
+    let t = upright_by r n (ap (λ (s : Fraction4). s.d.n) (sym e) ∙ v.1) a.d.n (adj4 whole x) (ap numerators4 (sym e) ∙ v.0) in
     let up : a.d.n ≡ pos (unsigned_abs a.d.n) = (positive_abs a.d.n (low_positive a h)).1 in
     l ∙ ap (λ (y : Fraction4). lowest_terms (numerators4 y) (unsigned_abs y.d.n)) w
     ∙ (λ i. lowest_terms (t.0 i) (t.1 i))

@@ -61,3 +61,15 @@ pub mod RootsK24
 pub mod Short
 pub mod ShortLaws
 pub mod Short4
+pub mod SmallLaws
+pub mod Short4Laws
+pub mod Lowest4
+pub mod Lowest4Laws
+pub mod Short8
+pub mod Short8Laws
+pub mod Lowest8
+pub mod Lowest8Laws
+pub mod DotLaws
+pub mod SmallNumbers
+pub mod Coefficients
+pub mod CoefficientsLaws

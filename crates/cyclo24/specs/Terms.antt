@@ -1,6 +1,5 @@
 -- Sums of terms, each a fraction times a unit.
 --
--- IsTerm t: the denominator divides 24, a numerator of at most 10,000, a power of z below 24
 -- unit_value u, term_value t, terms_value ts: the exact values of a unit, a term and a sum of terms
 -- unit8 u, term8 t, terms8 ts: the coefficients of 1, z, .., z^7 in a unit, and in 24 times a term and a sum of terms
 use Rattle.std.specs.Prelude.{◌≡◌, ℕ, ◌<◌, ◌≤◌, ◌/◌, ◌%◌, ℤ, pos, ◌*ℤ◌, List, [], ◌∷◌, get_or}
@@ -15,18 +14,6 @@ use Rattle.cyclo24.specs.Eight.{Eight, add8, num8, real8}
 use Rattle.cyclo24.specs.ExactZ24.{ExactZ24, z24_laws, power, imaginary, from_real}
 use Rattle.cyclo24.specs.RootsK24.{r2, r3, r6}
 use Rattle.cyclo24.specs.Z24Roots.{power8, four2, four3, four6}
-
--- a power of z is below 24
-abbrev pub IsUnit : TermUnit → Type 0
-IsUnit (Z n) = n < 24
-IsUnit _ = Unit {0}
-
--- a term of a file
-pub record IsTerm (t : Term) : Type 0 where
-  pub numerator : unsigned_abs t.num ≤ 10000
-  pub positive : 0 < t.den
-  pub divides : 24 % t.den ≡ 0
-  pub power : IsUnit t.unit
 
 -- the exact value of a unit
 abbrev pub unit_value : TermUnit → ExactZ24

@@ -18,7 +18,8 @@ use Rattle.cyclo24.specs.declared.fraction8.Fraction8.{Fraction8}
 use Rattle.cyclo24.specs.Eight.{Eight, real8, add8, num8}
 use Rattle.cyclo24.specs.EightNorm.{list8, whole8_ring}
 use Rattle.algebra.specs.Whole.{whole}
-use Rattle.cyclo24.specs.Terms.{IsTerm, unit8, factor_of, term8, terms8, row8, scale8, AreAtMost}
+use Rattle.iso_text.specs.WordRanges.{IsTerm}
+use Rattle.cyclo24.specs.Terms.{unit8, factor_of, term8, terms8, row8, scale8, AreAtMost}
 
 small_abs : (k : ℤ) → FitsSigned w8 k → unsigned_abs k ≤ 128
 small_abs k h = omega (arith, ints)

@@ -37,7 +37,8 @@ use Rattle.cyclo24.specs.RootsK24.{r2, r3, r6}
 use Rattle.cyclo24.specs.ExactK24.{Exact24}
 use Rattle.cyclo24.specs.ExactZ24.{ExactZ24, z24_laws, power, from_real}
 use Rattle.cyclo24.specs.Z24Roots.{member, power8, power_is, power-6, from_real-member, power8-one, four2, four3, four6, r2_member, r3_member, r6_member}
-use Rattle.cyclo24.specs.Terms.{IsTerm, unit_value, ratio_value, term_value, terms_value, unit8, scale8, row8, factor_of, term8, terms8, AreAtMost}
+use Rattle.iso_text.specs.WordRanges.{IsTerm}
+use Rattle.cyclo24.specs.Terms.{unit_value, ratio_value, term_value, terms_value, unit8, scale8, row8, factor_of, term8, terms8, AreAtMost}
 
 ones_member : (n : ℕ) → ones z24_laws n ≡ member (num8 whole (pos n))
 ones_member zero = sym (exact_member-zero whole8 eight eight_is)

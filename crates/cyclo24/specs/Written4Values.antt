@@ -1,6 +1,7 @@
 -- The values of the formulas on four numerators over a denominator, and that they are narrow where they are answered.
 --
 -- product_value, sum_value, inverse_value: the numerators and the denominator that are answered
+-- u_value, v_value: the parts of the norm
 -- product_narrow, sum_narrow, inverse_narrow: no number of an answer is wide
 use Rattle.std.proofs.Common.{◌≡◌, refl, sym, ap, ◌∙◌, subst, arith, ℤ, pos, negsuc, neg_ℤ, ◌+ℤ◌, ◌*ℤ◌, List, [], ◌∷◌, false}
 use Rattle.std.proofs.lemmas.Int.{ints}
@@ -146,11 +147,11 @@ multiple_value : (d : Whole) (f g : ℤ) (x u y v : Whole) → (multiple d (prod
 unfolding multiple sum_from then term
 multiple_value d f g x u y v = refl
 
-u_value : (a : Fraction4) → (norm_u a).value.n ≡ Fours.norm_u whole (four_of a)
+pub u_value : (a : Fraction4) → (norm_u a).value.n ≡ Fours.norm_u whole (four_of a)
 unfolding norm_u sum_from then term
 u_value a = omega (arith, ints)
 
-v_value : (a : Fraction4) → (norm_v a).value.n ≡ Fours.norm_v whole (four_of a)
+pub v_value : (a : Fraction4) → (norm_v a).value.n ≡ Fours.norm_v whole (four_of a)
 unfolding norm_v sum_from then term
 v_value a = omega (arith, ints)
 

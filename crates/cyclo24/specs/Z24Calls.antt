@@ -25,7 +25,7 @@ use Rattle.cyclo24.specs.Checked.{is_wide, answer}
 use Rattle.cyclo24.specs.CheckedLaws.{answer_ok, neg_narrow, below_wide}
 use Rattle.cyclo24.specs.Written4.{numbers4, numerators4, four_of, IsNarrow4}
 use Rattle.cyclo24.specs.Written8.{numbers8, numerators8, eight_of, IsNarrow8, num, sum, product, negated, conjugate, real, imaginary, from_four}
-use Rattle.cyclo24.specs.Written8Values.{product_value, sum_value, conjugate_value, real_value, imaginary_value, from_four_value, product_narrow, sum_narrow, conjugate_narrow, real_narrow, imaginary_narrow, from_four_narrow}
+use Rattle.cyclo24.specs.Written8Values.{product_value, sum_value, conjugate_value, real_value, imaginary_value, from_four_value, conjugate_narrow, real_narrow, imaginary_narrow, from_four_narrow}
 use Rattle.cyclo24.specs.ExactK24.{Exact24}
 use Rattle.cyclo24.specs.ExactZ24.{ExactZ24, z24_laws, conj, real_part, imag_part, from_real}
 
@@ -83,19 +83,12 @@ product_positive (negsuc m) y h k = absurd (cc)
 
 -- products
 
-pub product_ready8 : (a b r : Fraction8) → IsLow8 a → IsLow8 b → answer (product a b) ≡ Ok r → IsNarrow8 r × (is_positive r.d.n ≡ true)
-product_ready8 a b r h k e =
-    let f = answer_ok (product a b) r e in
-    let d : r.d.n ≡ a.d.n *ℤ b.d.n = ap (λ (s : Fraction8). s.d.n) (sym f.1) ∙ (product_value a b).1 in
-    (subst IsNarrow8 f.1 (product_narrow a b f.0), ap is_positive d ∙ product_positive a.d.n b.d.n (low_positive8 a h) (low_positive8 b k))
-
-pub product_z24 : (a b r s : Fraction8) (h : IsLow8 a) (k : IsLow8 b) → answer (product a b) ≡ Ok r → numbers8 s ≡ lowest_terms (numerators8 r) (unsigned_abs r.d.n)
+pub product_z24 : (a b r s : Fraction8) (h : IsLow8 a) (k : IsLow8 b) → (product a b).value ≡ r → numbers8 s ≡ lowest_terms (numerators8 r) (unsigned_abs r.d.n)
     → numbers8 s ≡ (z24_laws.times (exact_of8 a h) (exact_of8 b k)).0
 product_z24 a b r s h k e q =
-    let f = answer_ok (product a b) r e in
     let v = product_value a b in
-    let n : numerators8 r ≡ list8 (mul8 whole (eight_of a) (eight_of b)) = ap numerators8 (sym f.1) ∙ v.0 in
-    let d : unsigned_abs r.d.n ≡ unsigned_abs a.d.n * unsigned_abs b.d.n = ap (λ (s : Fraction8). unsigned_abs s.d.n) (sym f.1) ∙ ap unsigned_abs v.1 ∙ unsigned_abs-mul a.d.n b.d.n in
+    let n : numerators8 r ≡ list8 (mul8 whole (eight_of a) (eight_of b)) = ap numerators8 (sym e) ∙ v.0 in
+    let d : unsigned_abs r.d.n ≡ unsigned_abs a.d.n * unsigned_abs b.d.n = ap (λ (s : Fraction8). unsigned_abs s.d.n) (sym e) ∙ ap unsigned_abs v.1 ∙ unsigned_abs-mul a.d.n b.d.n in
     q ∙ (λ i. lowest_terms (n i) (d i)) ∙ sym (times-is whole8 eight eight_is (exact_of8 a h) (exact_of8 b k))
 
 -- sums
@@ -108,29 +101,17 @@ quotient_upright : (z : ℤ) (g : ℕ) → is_positive z ≡ true → quotient z
 quotient_upright (pos n) g h = refl
 quotient_upright (negsuc n) g h = absurd (cc)
 
-pub sum_ready8 : (a b r : Fraction8) → IsLow8 a → IsLow8 b → answer (sum a b) ≡ Ok r → IsNarrow8 r × (is_positive r.d.n ≡ true)
-sum_ready8 a b r h k e =
-    let g = gcd (unsigned_abs a.d.n) (unsigned_abs b.d.n) in
-    let q = num (quotient b.d.n g) in
-    let p = num (quotient a.d.n g) in
-    let t = answer_ok (sum a b) r e in
-    let d : r.d.n ≡ a.d.n *ℤ quotient b.d.n g = ap (λ (s : Fraction8). s.d.n) (sym t.1) ∙ (sum_value a q b p).1 in (
-      subst IsNarrow8 t.1 (sum_narrow a q b p t.0),
-      ap is_positive d ∙ product_positive a.d.n (quotient b.d.n g) (low_positive8 a h) (quotient_positive b.d.n g (low_positive8 b k) (gcd_is (unsigned_abs a.d.n) (unsigned_abs b.d.n)).1),
-    )
-
-pub sum_z24 : (a b r s : Fraction8) (h : IsLow8 a) (k : IsLow8 b) → answer (sum a b) ≡ Ok r → numbers8 s ≡ lowest_terms (numerators8 r) (unsigned_abs r.d.n) → numbers8 s ≡ (z24_laws.plus (exact_of8 a h) (exact_of8 b k)).0
+pub sum_z24 : (a b r s : Fraction8) (h : IsLow8 a) (k : IsLow8 b) → (sum a b).value ≡ r → numbers8 s ≡ lowest_terms (numerators8 r) (unsigned_abs r.d.n) → numbers8 s ≡ (z24_laws.plus (exact_of8 a h) (exact_of8 b k)).0
 sum_z24 a b r s h k e l =
     let g = gcd (unsigned_abs a.d.n) (unsigned_abs b.d.n) in
     let q = num (quotient b.d.n g) in
     let p = num (quotient a.d.n g) in
-    let t = answer_ok (sum a b) r e in
     let v = sum_value a q b p in
     let qe = quotient_upright b.d.n g (low_positive8 b k) in
     let pe = quotient_upright a.d.n g (low_positive8 a h) in
-    let n = ap numerators8 (sym t.1) ∙ v.0
+    let n = ap numerators8 (sym e) ∙ v.0
     ∙ (λ i. (qe i *ℤ a.c0.n +ℤ pe i *ℤ b.c0.n) ∷ (qe i *ℤ a.c1.n +ℤ pe i *ℤ b.c1.n) ∷ (qe i *ℤ a.c2.n +ℤ pe i *ℤ b.c2.n) ∷ (qe i *ℤ a.c3.n +ℤ pe i *ℤ b.c3.n) ∷ (qe i *ℤ a.c4.n +ℤ pe i *ℤ b.c4.n) ∷ (qe i *ℤ a.c5.n +ℤ pe i *ℤ b.c5.n) ∷ (qe i *ℤ a.c6.n +ℤ pe i *ℤ b.c6.n) ∷ (qe i *ℤ a.c7.n +ℤ pe i *ℤ b.c7.n) ∷ []) in
-    let d : unsigned_abs r.d.n ≡ unsigned_abs a.d.n * over_gcd b a b = ap (λ (s : Fraction8). unsigned_abs s.d.n) (sym t.1) ∙ ap unsigned_abs v.1 ∙ ap (λ z. unsigned_abs (a.d.n *ℤ z)) qe ∙ unsigned_abs-mul a.d.n (pos (over_gcd b a b)) in
+    let d : unsigned_abs r.d.n ≡ unsigned_abs a.d.n * over_gcd b a b = ap (λ (s : Fraction8). unsigned_abs s.d.n) (sym e) ∙ ap unsigned_abs v.1 ∙ ap (λ z. unsigned_abs (a.d.n *ℤ z)) qe ∙ unsigned_abs-mul a.d.n (pos (over_gcd b a b)) in
     l ∙ (λ i. lowest_terms (n i) (d i)) ∙ sym (plus-is whole8 eight eight_is (exact_of8 a h) (exact_of8 b k))
 
 -- negatives, 0 and 1
@@ -142,16 +123,6 @@ pub negated_narrow8 : (r s : Fraction8) → IsNarrow8 r → s ≡ negated r → 
 negated_narrow8 r s h e =
     subst IsNarrow8 (sym e)
     (record { narrow0 = neg_narrow r.c0.n h.narrow0; narrow1 = neg_narrow r.c1.n h.narrow1; narrow2 = neg_narrow r.c2.n h.narrow2; narrow3 = neg_narrow r.c3.n h.narrow3; narrow4 = neg_narrow r.c4.n h.narrow4; narrow5 = neg_narrow r.c5.n h.narrow5; narrow6 = neg_narrow r.c6.n h.narrow6; narrow7 = neg_narrow r.c7.n h.narrow7; narrow = h.narrow })
-
--- a difference is a sum with the negative
-pub difference_z24 : (a b c r s : Fraction8) (h : IsLow8 a) (k : IsLow8 b) → c ≡ negated b → answer (sum a c) ≡ Ok r → numbers8 s ≡ lowest_terms (numerators8 r) (unsigned_abs r.d.n)
-    → numbers8 s ≡ (z24_laws.plus (exact_of8 a h) (z24_laws.neg (exact_of8 b k))).0
-difference_z24 a b c r s h k n e l =
-    let m = made_low8 c (z24_laws.neg (exact_of8 b k)) (negated_z24 b c k n) in
-    sum_z24 a c r s h m e l ∙ ap (λ y. (z24_laws.plus (exact_of8 a h) y).0) (made_value8 c (z24_laws.neg (exact_of8 b k)) (negated_z24 b c k n) m)
-
-pub negated_low : (b c : Fraction8) (k : IsLow8 b) → c ≡ negated b → IsLow8 c
-negated_low b c k n = made_low8 c (z24_laws.neg (exact_of8 b k)) (negated_z24 b c k n)
 
 abbrev pub small : ℕ → Fraction8
 small n = record { d = num (pos 1); c0 = num (pos n); c1 = num (pos 0); c2 = num (pos 0); c3 = num (pos 0); c4 = num (pos 0); c5 = num (pos 0); c6 = num (pos 0); c7 = num (pos 0) }

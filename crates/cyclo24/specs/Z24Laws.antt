@@ -5,6 +5,7 @@
 -- real_part-.., imag_part-..: of sums, products, conjugates and real numbers
 -- from_real-..: real numbers are a subfield
 -- times-conj: x times its conjugate is the sum of the squares of its parts; inverse_is: the inverse by the conjugate
+-- conj_linear: conjugation is linear on the numerators
 use Rattle.std.proofs.Common.{◌≡◌, refl, sym, ap, ◌∙◌, ℤ, pos}
 use Rattle.algebra.specs.Ring.{Ops}
 use Rattle.cyclo24.specs.FieldOn.{FieldOn}
@@ -31,7 +32,7 @@ E = Exact (is_exact 8)
 abbrev R : Type 0
 R = Exact (is_exact 4)
 
-conj_linear : IsLinear whole8 whole8 (conj8 whole)
+pub conj_linear : IsLinear whole8 whole8 (conj8 whole)
 conj_linear = record { plus = conj8-add8 whole whole_ring; multiple = λ n x. conj8-scale whole whole_ring (pos n) x }
 
 re_linear : IsLinear whole8 whole4 (re8 whole)

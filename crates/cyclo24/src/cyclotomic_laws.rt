@@ -1,8 +1,12 @@
 // The laws of the 24th cyclotomic field that the layers above rest on, as clauses of functions that
 // do nothing.
-ghost use Rattle.std.specs.Prelude.{◌≡◌, ◌+◌, ◌%◌, ℕ};
+ghost use Rattle.std.specs.Prelude.{◌≡◌, ◌+◌, ◌-◌, ◌%◌, ℕ};
 ghost use Rattle.cyclo24.specs.ExactK24.{Exact24, k24_laws};
 ghost use Rattle.cyclo24.specs.ExactZ24.{ExactZ24, z24_laws, conj, real_part, imag_part, from_real, power, imaginary};
+ghost use Rattle.cyclo24.specs.Numerals.{of_whole};
+ghost use Rattle.cyclo24.specs.Listed.{denominator};
+ghost use Rattle.cyclo24.specs.Coefficients.{in_powers, reduced8};
+ghost use Rattle.cyclo24.specs.Written8.{fraction8_of, numbers8, sum, product, negated};
 ghost use Rattle.cyclo24.specs.RootsK24.{r2, r3, r6};
 
 /// Conjugation is an involution that respects sums and products, and keeps real numbers.
@@ -48,10 +52,23 @@ pub fn law_of_real_numbers()
 /// z is a root of unity of order 24 with z^8 = z^4 - 1, whose powers make i and the square roots.
 pub fn law_of_powers()
     ensures products { (a b : ℕ) → z24_laws.times (power a) (power b) ≡ power ((a + b) % 24) }
+    ensures conjugates { (a : ℕ) → conj (power a) ≡ power ((24 - a % 24) % 24) }
     ensures eighth { power 8 ≡ z24_laws.plus (power 4) (z24_laws.neg z24_laws.unit) }
     ensures twelfth { power 12 ≡ z24_laws.neg z24_laws.unit }
     ensures sixth { power 6 ≡ imaginary }
     ensures two { from_real r2 ≡ z24_laws.plus (power 3) (power 21) }
     ensures three { from_real r3 ≡ z24_laws.plus (power 2) (power 22) }
     ensures six { from_real r6 ≡ z24_laws.plus (z24_laws.plus (power 1) (power 23)) (z24_laws.plus (power 5) (power 19)) }
+{}
+
+/// A value times its denominator is c0 + c1 z + .. + c7 z^7, for the numbers of its list.
+pub fn law_of_cyclotomic_coefficients()
+    ensures { (x : ExactZ24) → z24_laws.times (of_whole z24_laws (denominator 8 x.0)) x ≡ in_powers x }
+{}
+
+/// The sum, the product and the negative are the written formulas, in lowest terms.
+pub fn law_of_cyclotomic_formulas()
+    ensures sum { (x y : ExactZ24) → (z24_laws.plus x y).0 ≡ reduced8 (sum (fraction8_of x.0) (fraction8_of y.0)).value }
+    ensures product { (x y : ExactZ24) → (z24_laws.times x y).0 ≡ reduced8 (product (fraction8_of x.0) (fraction8_of y.0)).value }
+    ensures negative { (x : ExactZ24) → (z24_laws.neg x).0 ≡ numbers8 (negated (fraction8_of x.0)) }
 {}

@@ -1,6 +1,7 @@
 // Fields whose values stand for exact ones.
 ghost use Rattle.std.specs.Prelude.{◌≡◌, ◌↔◌, true, false, IfOk, IsErr, IsTrue};
 ghost use Rattle.cyclo24.specs.ExactField.{ExactField, Value};
+ghost use Rattle.cyclo24.specs.Numerals.{of_whole};
 
 use std::hash::Hash;
 
@@ -24,6 +25,10 @@ pub trait Field: Copy + Eq + Ord + Hash {
     /// 1.
     fn one() -> Self
         ensures { value result ≡ field.laws.unit };
+
+    /// The whole number n.
+    fn small(n: i8) -> Self
+        ensures { value result ≡ of_whole field.laws n };
 
     /// Whether the value is 0.
     fn is_zero(self) -> bool

@@ -1,14 +1,13 @@
 // Four numerators over a denominator, and the formulas of the field on them.
-ghost use Rattle.std.specs.Prelude.{◌≡◌, ◌<◌, ◌≤◌, pos, true, false, neg_ℤ};
+ghost use Rattle.std.specs.Prelude.{◌≡◌, ◌<◌, ◌≤◌, pos, true, false};
 ghost use Rattle.std.specs.Int.RustNames.{unsigned_abs};
 ghost use Rattle.cyclo24.specs.Checked.{answer, is_wide};
 ghost use Rattle.cyclo24.specs.Gcd.{common, lowest_terms, all_zero};
 ghost use Rattle.cyclo24.specs.Listed.{is_positive};
-ghost use Rattle.cyclo24.specs.Short4.{IsShort4, AreShort4, AreShortTwo, AreShortOver};
 ghost use Rattle.cyclo24.specs.Written4.{numerators4, numbers4, IsNarrow4, product0, product1, product2, product3, product, joined, sum_over, sum, norm_u, norm_v, norm, multiple, inverse_over, inverse, negated, upright};
 
 use crate::Wide;
-use crate::whole::{Product, Whole, product_of_two, sum_of, sum_of_four, sum_of_two};
+use crate::whole::{Product, Whole, sum_of};
 
 /// The number (a0 + a1 r2 + a2 r3 + a3 r6) / d. It compares by d, then by the numerators.
 #[derive(Clone, Copy, Debug, PartialEq, Eq, PartialOrd, Ord, Hash)]
@@ -23,65 +22,57 @@ pub(crate) struct Fraction4 {
 // The coefficient of 1 in a product.
 #[tactic(auto, unfolding(crate::specs::Written4::product0))]
 #[rattlefmt::skip]
-fn product0(short: bool, a: Fraction4, b: Fraction4) -> Result<Whole, Wide>
-    requires { short ≡ true → AreShort4 a b }
+fn product0(a: Fraction4, b: Fraction4) -> Result<Whole, Wide>
     ensures { result ≡ answer (product0 a b) }
 {
-    sum_of_four(
-        short,
+    sum_of(&[
         Product { factor: Whole { n: 1 }, x: a.a0, y: b.a0 },
         Product { factor: Whole { n: 2 }, x: a.a1, y: b.a1 },
         Product { factor: Whole { n: 3 }, x: a.a2, y: b.a2 },
         Product { factor: Whole { n: 6 }, x: a.a3, y: b.a3 },
-    )
+    ])
 }
 
 // The coefficient of r2 in a product.
 #[tactic(auto, unfolding(crate::specs::Written4::product1))]
 #[rattlefmt::skip]
-fn product1(short: bool, a: Fraction4, b: Fraction4) -> Result<Whole, Wide>
-    requires { short ≡ true → AreShort4 a b }
+fn product1(a: Fraction4, b: Fraction4) -> Result<Whole, Wide>
     ensures { result ≡ answer (product1 a b) }
 {
-    sum_of_four(
-        short,
+    sum_of(&[
         Product { factor: Whole { n: 1 }, x: a.a0, y: b.a1 },
         Product { factor: Whole { n: 1 }, x: a.a1, y: b.a0 },
         Product { factor: Whole { n: 3 }, x: a.a2, y: b.a3 },
         Product { factor: Whole { n: 3 }, x: a.a3, y: b.a2 },
-    )
+    ])
 }
 
 // The coefficient of r3 in a product.
 #[tactic(auto, unfolding(crate::specs::Written4::product2))]
 #[rattlefmt::skip]
-fn product2(short: bool, a: Fraction4, b: Fraction4) -> Result<Whole, Wide>
-    requires { short ≡ true → AreShort4 a b }
+fn product2(a: Fraction4, b: Fraction4) -> Result<Whole, Wide>
     ensures { result ≡ answer (product2 a b) }
 {
-    sum_of_four(
-        short,
+    sum_of(&[
         Product { factor: Whole { n: 1 }, x: a.a0, y: b.a2 },
         Product { factor: Whole { n: 1 }, x: a.a2, y: b.a0 },
         Product { factor: Whole { n: 2 }, x: a.a1, y: b.a3 },
         Product { factor: Whole { n: 2 }, x: a.a3, y: b.a1 },
-    )
+    ])
 }
 
 // The coefficient of r6 in a product.
 #[tactic(auto, unfolding(crate::specs::Written4::product3))]
 #[rattlefmt::skip]
-fn product3(short: bool, a: Fraction4, b: Fraction4) -> Result<Whole, Wide>
-    requires { short ≡ true → AreShort4 a b }
+fn product3(a: Fraction4, b: Fraction4) -> Result<Whole, Wide>
     ensures { result ≡ answer (product3 a b) }
 {
-    sum_of_four(
-        short,
+    sum_of(&[
         Product { factor: Whole { n: 1 }, x: a.a0, y: b.a3 },
         Product { factor: Whole { n: 1 }, x: a.a3, y: b.a0 },
         Product { factor: Whole { n: 1 }, x: a.a1, y: b.a2 },
         Product { factor: Whole { n: 1 }, x: a.a2, y: b.a1 },
-    )
+    ])
 }
 
 // a0² + 2 a1² - 3 a2² - 6 a3².
@@ -125,15 +116,13 @@ fn norm(u: Whole, v: Whole) -> Result<Whole, Wide>
 // x p + f y q.
 #[tactic(auto, unfolding(crate::specs::Written4::joined))]
 #[rattlefmt::skip]
-fn joined(short: bool, x: Whole, p: Whole, factor: Whole, y: Whole, q: Whole) -> Result<Whole, Wide>
-    requires { short ≡ true → AreShortTwo x p factor y q }
+fn joined(x: Whole, p: Whole, factor: Whole, y: Whole, q: Whole) -> Result<Whole, Wide>
     ensures { result ≡ answer (joined x p factor y q) }
 {
-    sum_of_two(
-        short,
+    sum_of(&[
         Product { factor: Whole { n: 1 }, x, y: p },
         Product { factor, x: y, y: q },
-    )
+    ])
 }
 
 // d (f x u + g y v).
@@ -144,31 +133,22 @@ fn multiple(d: Whole, first: Product, second: Product) -> Result<Whole, Wide>
     d.times(sum)
 }
 
-// a q + f b p, over d q. `short` may say that all these numbers are short.
+// a q + f b p, over d q.
 fn sum_over(
-    short: bool,
     factor: Whole,
     a: Fraction4,
     q: Whole,
     b: Fraction4,
     p: Whole,
 ) -> Result<Fraction4, Wide>
-    requires { short ≡ true → AreShortOver factor a q b p }
     ensures { result ≡ answer (sum_over factor a q b p) }
 {
-    let a0 = joined(short, a.a0, q, factor, b.a0, p)?;
-    let a1 = joined(short, a.a1, q, factor, b.a1, p)?;
-    let a2 = joined(short, a.a2, q, factor, b.a2, p)?;
-    let a3 = joined(short, a.a3, q, factor, b.a3, p)?;
-    let d = product_of_two(short, a.d, q)?;
+    let a0 = joined(a.a0, q, factor, b.a0, p)?;
+    let a1 = joined(a.a1, q, factor, b.a1, p)?;
+    let a2 = joined(a.a2, q, factor, b.a2, p)?;
+    let a3 = joined(a.a3, q, factor, b.a3, p)?;
+    let d = a.d.times(q)?;
     Ok(Fraction4 { d, a0, a1, a2, a3 })
-}
-
-// Whether all numbers of both are short.
-fn are_short(a: Fraction4, b: Fraction4) -> bool
-    ensures { result ≡ true → AreShort4 a b }
-{
-    a.is_short() && b.is_short()
 }
 
 // The numerators of the inverse by u and v, over the norm n.
@@ -200,30 +180,20 @@ fn inverse_over(a: Fraction4, u: Whole, v: Whole, n: Whole) -> Result<Fraction4,
 }
 
 impl Fraction4 {
-    // Whether all its numbers are short.
-    fn is_short(self) -> bool
-        ensures { result ≡ true → IsShort4 self }
-    {
-        self.d.is_short()
-            && (self.a0.is_short()
-                && (self.a1.is_short() && (self.a2.is_short() && self.a3.is_short())))
-    }
-
     /// The product, before lowest terms.
-    pub(crate) fn product(self, other: Fraction4) -> Result<Fraction4, Wide>
+    pub(crate) fn written_product(self, other: Fraction4) -> Result<Fraction4, Wide>
         ensures { result ≡ answer (product self other) }
     {
-        let short = are_short(self, other);
-        let a0 = product0(short, self, other)?;
-        let a1 = product1(short, self, other)?;
-        let a2 = product2(short, self, other)?;
-        let a3 = product3(short, self, other)?;
-        let d = product_of_two(short, self.d, other.d)?;
+        let a0 = product0(self, other)?;
+        let a1 = product1(self, other)?;
+        let a2 = product2(self, other)?;
+        let a3 = product3(self, other)?;
+        let d = self.d.times(other.d)?;
         Ok(Fraction4 { d, a0, a1, a2, a3 })
     }
 
     /// The sum with a multiple of the other number by 1 or -1, before lowest terms.
-    pub(crate) fn sum(self, factor: Whole, other: Fraction4) -> Result<Fraction4, Wide>
+    pub(crate) fn written_sum(self, factor: Whole, other: Fraction4) -> Result<Fraction4, Wide>
         requires narrow { is_wide self.d.n ≡ false }
         requires narrow_other { is_wide other.d.n ≡ false }
         requires positive { is_positive other.d.n ≡ true }
@@ -233,11 +203,11 @@ impl Fraction4 {
         let common = self.d.common(other.d);
         let p = self.d.divided(common);
         let q = other.d.divided(common);
-        sum_over(are_short(self, other), factor, self, q, other, p)
+        sum_over(factor, self, q, other, p)
     }
 
     /// The inverse over the norm, whose sign it has, before lowest terms.
-    pub(crate) fn inverse(self) -> Result<Fraction4, Wide>
+    pub(crate) fn written_inverse(self) -> Result<Fraction4, Wide>
         ensures { result ≡ answer (inverse self) }
     {
         let u = norm_u(self)?;

@@ -130,7 +130,7 @@ fn sum_over(a: Fraction8, q: Whole, b: Fraction8, p: Whole) -> Result<Fraction8,
 
 impl Fraction8 {
     /// The product, before lowest terms.
-    pub(crate) fn product(self, other: Fraction8) -> Result<Fraction8, Wide>
+    pub(crate) fn written_product(self, other: Fraction8) -> Result<Fraction8, Wide>
         ensures { result ≡ answer (product self other) }
     {
         let high = high_sums(self, other)?;
@@ -138,7 +138,7 @@ impl Fraction8 {
     }
 
     /// The sum, before lowest terms.
-    pub(crate) fn sum(self, other: Fraction8) -> Result<Fraction8, Wide>
+    pub(crate) fn written_sum(self, other: Fraction8) -> Result<Fraction8, Wide>
         requires narrow { is_wide self.d.n ≡ false }
         requires narrow_other { is_wide other.d.n ≡ false }
         requires positive { is_positive other.d.n ≡ true }

@@ -5,6 +5,7 @@ ghost use Rattle.cyclo24.specs.Listed.{is_exact};
 
 use crate::fraction4::Fraction4;
 use crate::print::push_multiple;
+use crate::small::Small;
 use crate::whole::Whole;
 use crate::{Field, Wide};
 use iso_text::{NoMemory, Text};
@@ -127,6 +128,18 @@ impl Field for K24 {
         }
     }
 
+    fn small(n: i8) -> K24 {
+        K24 {
+            fraction: Fraction4 {
+                d: Whole { n: 1 },
+                a0: Whole::byte(n),
+                a1: Whole { n: 0 },
+                a2: Whole { n: 0 },
+                a3: Whole { n: 0 },
+            },
+        }
+    }
+
     fn is_zero(self) -> bool {
         self.fraction.is_zero()
     }
@@ -138,31 +151,23 @@ impl Field for K24 {
     }
 
     fn add(self, other: K24) -> Result<K24, Wide> {
-        let sum = self.fraction.sum(Whole { n: 1 }, other.fraction)?;
-        Ok(K24 {
-            fraction: sum.reduced(),
-        })
+        let fraction = self.fraction.sum(Small { n: 1 }, &other.fraction)?;
+        Ok(K24 { fraction })
     }
 
     fn sub(self, other: K24) -> Result<K24, Wide> {
-        let difference = self.fraction.sum(Whole { n: -1 }, other.fraction)?;
-        Ok(K24 {
-            fraction: difference.reduced(),
-        })
+        let fraction = self.fraction.sum(Small { n: -1 }, &other.fraction)?;
+        Ok(K24 { fraction })
     }
 
     fn mul(self, other: K24) -> Result<K24, Wide> {
-        let product = self.fraction.product(other.fraction)?;
-        Ok(K24 {
-            fraction: product.reduced(),
-        })
+        let fraction = self.fraction.product(&other.fraction)?;
+        Ok(K24 { fraction })
     }
 
     fn inv(self) -> Result<K24, Wide> {
-        let inverse = self.fraction.inverse()?;
-        Ok(K24 {
-            fraction: inverse.upright().reduced(),
-        })
+        let fraction = self.fraction.inverse()?;
+        Ok(K24 { fraction })
     }
 
     ghost value_cmp = { exact24_cmp };

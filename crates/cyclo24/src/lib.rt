@@ -10,16 +10,25 @@ mod fraction4;
 mod fraction8;
 mod k24;
 mod laws;
+mod lowest4;
+mod lowest8;
 mod powers;
 mod print;
+mod short4;
+mod short8;
+mod small;
 mod terms;
 mod whole;
 mod z24;
 
 pub use cyclotomic_laws::{
-    law_of_conjugation, law_of_parts, law_of_powers, law_of_products_of_parts, law_of_real_numbers,
+    law_of_conjugation, law_of_cyclotomic_coefficients, law_of_cyclotomic_formulas, law_of_parts,
+    law_of_powers, law_of_products_of_parts, law_of_real_numbers,
 };
 pub use field::{Field, Wide};
 pub use k24::K24;
-pub use laws::{law_of_renumbering, law_of_roots, law_of_squares, law_of_whole_numbers};
+pub use laws::{
+    law_of_coefficients, law_of_formulas, law_of_renumbering, law_of_roots, law_of_squares,
+    law_of_sums, law_of_whole_numbers,
+};
 pub use z24::Z24;

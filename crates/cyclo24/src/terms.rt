@@ -6,7 +6,8 @@ ghost use Rattle.algebra.specs.Whole.{whole};
 ghost use Rattle.cyclo24.specs.Eight.{add8, num8};
 ghost use Rattle.cyclo24.specs.EightNorm.{list8};
 ghost use Rattle.cyclo24.specs.Written8.{eight_of};
-ghost use Rattle.cyclo24.specs.Terms.{IsUnit, IsTerm, unit8, scale8, factor_of, terms8, row8, AreAtMost};
+ghost use Rattle.iso_text.specs.WordRanges.{IsUnit, IsTerm};
+ghost use Rattle.cyclo24.specs.Terms.{unit8, scale8, factor_of, terms8, row8, AreAtMost};
 
 use crate::fraction8::Fraction8;
 use crate::powers::power_row;

@@ -1,21 +1,27 @@
 // Whole numbers in 128 bits, and sums of products that are refused where a written number is wide.
-ghost use Rattle.std.specs.Prelude.{◌∷◌, [], ◌≡◌, ◌<◌, ◌^◌, pos, int_lt, true, false, neg_ℤ};
+ghost use Rattle.std.specs.Prelude.{◌≡◌, ◌<◌, ◌≤◌, ◌^◌, pos, int_lt, true, false, neg_ℤ};
 ghost use Rattle.std.specs.Int.RustNames.{unsigned_abs};
 ghost use Rattle.std.specs.Ordering.{int_eq};
 ghost use Rattle.cyclo24.specs.Gcd.{gcd, quotient};
-ghost use Rattle.cyclo24.specs.Short.{is_short, IsShortProduct};
 ghost use Rattle.cyclo24.specs.Checked.{answer, written, times, plus, term, sum_of, is_wide};
 
 use crate::Wide;
+use crate::small::Small;
 
 /// The least absolute value that isn't written.
 const LEAST_WIDE: u128 = 1 << 126;
+
+/// The least number that 32 bits don't hold.
+const LEAST_ABOVE_32: u64 = 1 << 32;
 
 /// The least number that 64 bits don't hold.
 const LEAST_LONG: u128 = 1 << 64;
 
 /// The least absolute value that isn't short.
 const LEAST_NOT_SHORT: i128 = 1 << 28;
+
+/// The least absolute value that isn't tiny.
+const LEAST_NOT_TINY: i128 = 1 << 11;
 
 /// A whole number of 128 bits.
 #[derive(Clone, Copy, Debug, PartialEq, Eq, PartialOrd, Ord, Hash)]
@@ -31,6 +37,32 @@ fn narrow(x: i128) -> Result<Whole, Wide>
         Ok(Whole { n: x })
     } else {
         Err(Wide)
+    }
+}
+
+// The greatest common divisor of numbers of 32 bits, by Euclid's algorithm.
+#[tactic(auto, using(crate::specs::GcdLaws::gcd_step, crate::specs::GcdLaws::gcd_zero))]
+fn tiny_euclid(a: u32, b: u32) -> u32
+    ensures { result ≡ gcd a b }
+{
+    let mut x = a;
+    let mut y = b;
+    while y != 0 {
+        let rest = x % y;
+        x = y;
+        y = rest;
+    }
+    x
+}
+
+/// The greatest common divisor, in 32 bits where both numbers are so short.
+pub(crate) fn short_common(a: u64, b: u64) -> u64
+    ensures { result ≡ gcd a b }
+{
+    if a < LEAST_ABOVE_32 && b < LEAST_ABOVE_32 {
+        tiny_euclid(a as u32, b as u32) as u64
+    } else {
+        short_euclid(a, b)
     }
 }
 
@@ -54,7 +86,7 @@ fn greatest_common(a: u128, b: u128) -> u128
     ensures { result ≡ gcd a b }
 {
     if a < LEAST_LONG && b < LEAST_LONG {
-        short_euclid(a as u64, b as u64) as u128
+        short_common(a as u64, b as u64) as u128
     } else {
         euclid(a, b)
     }
@@ -76,6 +108,14 @@ fn euclid(a: u128, b: u128) -> u128
 }
 
 impl Whole {
+    /// A number of 8 bits.
+    pub(crate) fn byte(n: i8) -> Whole
+        ensures value { result ≡ record { n = n } }
+        ensures narrow { is_wide result.n ≡ false }
+    {
+        Whole { n: n as i128 }
+    }
+
     /// A number of 64 bits.
     pub(crate) fn small(n: i64) -> Whole
         ensures value { result ≡ record { n = n } }
@@ -108,11 +148,27 @@ impl Whole {
     }
 
     /// Whether its absolute value is below 2^28.
-    #[tactic(auto, unfolding(crate::specs::Short::is_short), using(crate::specs::ShortLaws::short_between))]
+    #[tactic(auto, using(crate::specs::SmallLaws::short_between))]
     pub(crate) fn is_short(self) -> bool
-        ensures { result ≡ is_short self.n }
+        ensures { result ≡ true → unsigned_abs self.n ≤ 2 ^ 28 }
     {
         -LEAST_NOT_SHORT < self.n && self.n < LEAST_NOT_SHORT
+    }
+
+    /// Whether its absolute value is below 2^11.
+    #[tactic(auto, using(crate::specs::SmallLaws::tiny_between))]
+    pub(crate) fn is_tiny(self) -> bool
+        ensures { result ≡ true → unsigned_abs self.n ≤ 2 ^ 11 }
+    {
+        -LEAST_NOT_TINY < self.n && self.n < LEAST_NOT_TINY
+    }
+
+    /// The number in 64 bits.
+    pub(crate) fn shortened(self) -> Small
+        requires { unsigned_abs self.n ≤ 2 ^ 28 }
+        ensures { result ≡ record { n = self.n } }
+    {
+        Small { n: self.n as i64 }
     }
 
     /// Whether it is below 0.
@@ -205,95 +261,6 @@ impl Product {
     {
         let product = self.x.times(self.y)?;
         self.factor.times(product)
-    }
-}
-
-// A short product with its factor. It is computed in 64 bits.
-fn short_term(p: Product) -> Whole
-    requires { IsShortProduct p }
-    ensures { result ≡ (term p).value }
-{
-    let x = p.x.n as i64;
-    let y = p.y.n as i64;
-    let factor = p.factor.n as i64;
-    Whole {
-        n: (factor * (x * y)) as i128,
-    }
-}
-
-// The sum of two short products.
-fn short_pair(p: Product, q: Product) -> Whole
-    requires first { IsShortProduct p }
-    requires second { IsShortProduct q }
-    ensures { result ≡ (sum_of (p ∷ q ∷ [])).value }
-{
-    let first = short_term(p);
-    let second = short_term(q);
-    Whole {
-        n: first.n + second.n,
-    }
-}
-
-// The sum of four short products.
-fn short_four(p: Product, q: Product, r: Product, s: Product) -> Whole
-    requires first { IsShortProduct p }
-    requires second { IsShortProduct q }
-    requires third { IsShortProduct r }
-    requires fourth { IsShortProduct s }
-    ensures { result ≡ (sum_of (p ∷ q ∷ r ∷ s ∷ [])).value }
-{
-    let first = short_pair(p, q);
-    let second = short_pair(r, s);
-    Whole {
-        n: first.n + second.n,
-    }
-}
-
-/// The product, unless it is wide. `short` may say that both numbers are short; it isn't wide then.
-pub(crate) fn product_of_two(short: bool, x: Whole, y: Whole) -> Result<Whole, Wide>
-    requires { short ≡ true → (unsigned_abs x.n < 2 ^ 28) × (unsigned_abs y.n < 2 ^ 28) }
-    ensures { result ≡ answer (times x y) }
-{
-    if short {
-        Ok(short_term(Product {
-            factor: Whole { n: 1 },
-            x,
-            y,
-        }))
-    } else {
-        x.times(y)
-    }
-}
-
-/// The sum of two products from left to right, unless a written number is wide. `short` may say that
-/// both are short; none of their numbers is wide then.
-pub(crate) fn sum_of_two(short: bool, p: Product, q: Product) -> Result<Whole, Wide>
-    requires { short ≡ true → IsShortProduct p × IsShortProduct q }
-    ensures { result ≡ answer (sum_of (p ∷ q ∷ [])) }
-{
-    if short {
-        Ok(short_pair(p, q))
-    } else {
-        sum_of(&[p, q])
-    }
-}
-
-/// The sum of four products from left to right, unless a written number is wide. `short` may say that
-/// all are short; none of their numbers is wide then.
-pub(crate) fn sum_of_four(
-    short: bool,
-    p: Product,
-    q: Product,
-    r: Product,
-    s: Product,
-) -> Result<Whole, Wide>
-    requires { short ≡ true → IsShortProduct p × IsShortProduct q × IsShortProduct r × IsShortProduct s }
-    ensures { result ≡ answer (sum_of (p ∷ q ∷ r ∷ s ∷ [])) }
-{
-    if short {
-        Ok(short_four(p, q, r, s))
-    } else {
-        sum_of(&[p, q, r, s])
     }
 }
 

@@ -64,6 +64,22 @@ impl Field for Z24 {
         }
     }
 
+    fn small(n: i8) -> Z24 {
+        Z24 {
+            fraction: Fraction8 {
+                d: Whole { n: 1 },
+                c0: Whole::byte(n),
+                c1: Whole { n: 0 },
+                c2: Whole { n: 0 },
+                c3: Whole { n: 0 },
+                c4: Whole { n: 0 },
+                c5: Whole { n: 0 },
+                c6: Whole { n: 0 },
+                c7: Whole { n: 0 },
+            },
+        }
+    }
+
     fn is_zero(self) -> bool {
         self.fraction.is_zero()
     }
@@ -75,25 +91,18 @@ impl Field for Z24 {
     }
 
     fn add(self, other: Z24) -> Result<Z24, Wide> {
-        let sum = self.fraction.sum(other.fraction)?;
-        Ok(Z24 {
-            fraction: sum.reduced(),
-        })
+        let fraction = self.fraction.sum(&other.fraction)?;
+        Ok(Z24 { fraction })
     }
 
     fn sub(self, other: Z24) -> Result<Z24, Wide> {
-        let negative = other.fraction.negated();
-        let difference = self.fraction.sum(negative)?;
-        Ok(Z24 {
-            fraction: difference.reduced(),
-        })
+        let negative = other.neg();
+        self.add(negative)
     }
 
     fn mul(self, other: Z24) -> Result<Z24, Wide> {
-        let product = self.fraction.product(other.fraction)?;
-        Ok(Z24 {
-            fraction: product.reduced(),
-        })
+        let fraction = self.fraction.product(&other.fraction)?;
+        Ok(Z24 { fraction })
     }
 
     /// The conjugate times the inverse of the squared absolute value.
@@ -112,7 +121,8 @@ impl Field for Z24 {
 impl Z24 {
     ghost use Rattle.std.specs.Prelude.{◌<◌, ◌≤◌, length};
     ghost use Rattle.std.specs.List.{All};
-    ghost use Rattle.cyclo24.specs.Terms.{IsTerm, terms_value};
+    ghost use Rattle.iso_text.specs.WordRanges.{IsTerm};
+    ghost use Rattle.cyclo24.specs.Terms.{terms_value};
     ghost use Rattle.cyclo24.specs.ExactZ24.{power, conj, real_part, imag_part, from_real, is_wide_conj, is_wide_real_part, is_wide_imag_part, is_wide_from_real};
     ghost use Rattle.cyclo24.specs.K24.{exact24};
     ghost use Rattle.cyclo24.specs.TextZ24.{text_z24};

@@ -3,14 +3,13 @@
 -- value_of order: the number N
 -- rotation_rows rotation: its rows
 -- axis_of rotation: the axis of the cell that it is about
-use Rattle.std.specs.Prelude.{ℕ, ℤ, List, Option, Some, None}
+use Rattle.std.specs.Prelude.{ℕ, ℤ, pos, negsuc, List, [], ◌∷◌, Option, Some, None}
 use Rattle.hall_symbol.specs.declared.rotation.CellAxis.{CellAxis}
 use Rattle.hall_symbol.specs.declared.rotation.CellAxis.TheVariants.{X, Y, Z}
 use Rattle.hall_symbol.specs.declared.rotation.Order.{Order}
 use Rattle.hall_symbol.specs.declared.rotation.Order.TheVariants as order
 use Rattle.hall_symbol.specs.declared.rotation.Rotation.{Rotation}
 use Rattle.hall_symbol.specs.declared.rotation.Rotation.TheVariants.{One, TwoZ, ThreeZ, FourZ, SixZ, TwoX, TwoY, FourX, FourY, TwoPrimeAfterZ, TwoDoublePrimeAfterZ, TwoPrimeAfterX, TwoDoublePrimeAfterX, TwoPrimeAfterY, TwoDoublePrimeAfterY, ThreeStar}
-use Rattle.hall_symbol.specs.declared.table.TheConstants as table
 
 -- the number N
 abbrev pub value_of : Order → ℕ
@@ -20,24 +19,31 @@ value_of order.Three = 3
 value_of order.Four = 4
 value_of order.Six = 6
 
--- the rows of the matrix
+-- a row of three numbers, and three rows
+abbrev row : ℤ → ℤ → ℤ → List ℤ
+row x y z = x ∷ y ∷ z ∷ []
+
+abbrev rows : List ℤ → List ℤ → List ℤ → List (List ℤ)
+rows a b c = a ∷ b ∷ c ∷ []
+
+-- the rows of the matrix; `negsuc 0` is -1
 abbrev pub rotation_rows : Rotation → List (List ℤ)
-rotation_rows One = table.ONE
-rotation_rows TwoZ = table.TWO_Z
-rotation_rows ThreeZ = table.THREE_Z
-rotation_rows FourZ = table.FOUR_Z
-rotation_rows SixZ = table.SIX_Z
-rotation_rows TwoX = table.TWO_X
-rotation_rows TwoY = table.TWO_Y
-rotation_rows FourX = table.FOUR_X
-rotation_rows FourY = table.FOUR_Y
-rotation_rows TwoPrimeAfterZ = table.TWO_PRIME_AFTER_Z
-rotation_rows TwoDoublePrimeAfterZ = table.TWO_DOUBLE_PRIME_AFTER_Z
-rotation_rows TwoPrimeAfterX = table.TWO_PRIME_AFTER_X
-rotation_rows TwoDoublePrimeAfterX = table.TWO_DOUBLE_PRIME_AFTER_X
-rotation_rows TwoPrimeAfterY = table.TWO_PRIME_AFTER_Y
-rotation_rows TwoDoublePrimeAfterY = table.TWO_DOUBLE_PRIME_AFTER_Y
-rotation_rows ThreeStar = table.THREE_STAR
+rotation_rows One = rows (row (pos 1) (pos 0) (pos 0)) (row (pos 0) (pos 1) (pos 0)) (row (pos 0) (pos 0) (pos 1))
+rotation_rows TwoZ = rows (row (negsuc 0) (pos 0) (pos 0)) (row (pos 0) (negsuc 0) (pos 0)) (row (pos 0) (pos 0) (pos 1))
+rotation_rows ThreeZ = rows (row (pos 0) (negsuc 0) (pos 0)) (row (pos 1) (negsuc 0) (pos 0)) (row (pos 0) (pos 0) (pos 1))
+rotation_rows FourZ = rows (row (pos 0) (negsuc 0) (pos 0)) (row (pos 1) (pos 0) (pos 0)) (row (pos 0) (pos 0) (pos 1))
+rotation_rows SixZ = rows (row (pos 1) (negsuc 0) (pos 0)) (row (pos 1) (pos 0) (pos 0)) (row (pos 0) (pos 0) (pos 1))
+rotation_rows TwoX = rows (row (pos 1) (pos 0) (pos 0)) (row (pos 0) (negsuc 0) (pos 0)) (row (pos 0) (pos 0) (negsuc 0))
+rotation_rows TwoY = rows (row (negsuc 0) (pos 0) (pos 0)) (row (pos 0) (pos 1) (pos 0)) (row (pos 0) (pos 0) (negsuc 0))
+rotation_rows FourX = rows (row (pos 1) (pos 0) (pos 0)) (row (pos 0) (pos 0) (negsuc 0)) (row (pos 0) (pos 1) (pos 0))
+rotation_rows FourY = rows (row (pos 0) (pos 0) (pos 1)) (row (pos 0) (pos 1) (pos 0)) (row (negsuc 0) (pos 0) (pos 0))
+rotation_rows TwoPrimeAfterZ = rows (row (pos 0) (negsuc 0) (pos 0)) (row (negsuc 0) (pos 0) (pos 0)) (row (pos 0) (pos 0) (negsuc 0))
+rotation_rows TwoDoublePrimeAfterZ = rows (row (pos 0) (pos 1) (pos 0)) (row (pos 1) (pos 0) (pos 0)) (row (pos 0) (pos 0) (negsuc 0))
+rotation_rows TwoPrimeAfterX = rows (row (negsuc 0) (pos 0) (pos 0)) (row (pos 0) (pos 0) (negsuc 0)) (row (pos 0) (negsuc 0) (pos 0))
+rotation_rows TwoDoublePrimeAfterX = rows (row (negsuc 0) (pos 0) (pos 0)) (row (pos 0) (pos 0) (pos 1)) (row (pos 0) (pos 1) (pos 0))
+rotation_rows TwoPrimeAfterY = rows (row (pos 0) (pos 0) (negsuc 0)) (row (pos 0) (negsuc 0) (pos 0)) (row (negsuc 0) (pos 0) (pos 0))
+rotation_rows TwoDoublePrimeAfterY = rows (row (pos 0) (pos 0) (pos 1)) (row (pos 0) (negsuc 0) (pos 0)) (row (pos 1) (pos 0) (pos 0))
+rotation_rows ThreeStar = rows (row (pos 0) (pos 0) (pos 1)) (row (pos 1) (pos 0) (pos 0)) (row (pos 0) (pos 1) (pos 0))
 
 -- the axis of the cell that the rotation is about
 abbrev pub axis_of : Rotation → Option CellAxis

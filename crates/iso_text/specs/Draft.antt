@@ -3,7 +3,7 @@
 --
 -- has_room n sections: section n is short of its most items, and those behind it are empty
 -- next_of d line: the draft with the line, or None where the line can't stand there
-use Rattle.std.specs.Prelude.{◌≡◌, ℕ, zero, suc, ◌==◌, ◌&&◌, ◌||◌, not, nat_lt, List, [], ◌∷◌, ◌++◌, length, map, Bool, true, false, if◌then◌else◌, Option, Some, None, is_none, is_some, option_and_then}
+use Rattle.std.specs.Prelude.{◌≡◌, ℕ, zero, suc, ◌==◌, ◌&&◌, ◌||◌, not, nat_lt, List, [], ◌∷◌, ◌++◌, length, map, Bool, false, if◌then◌else◌, Option, Some, None, is_none, is_some, option_and_then}
 use Rattle.std.specs.List.{list_all}
 use Rattle.iso_text.specs.FileValue.{File}
 use Rattle.iso_text.specs.FileLines.{Section, sections, empty_file}

@@ -4,6 +4,7 @@ pub mod Digits
 pub mod DivisorLaws
 pub mod Draft
 pub mod File
+pub mod FileLaws
 pub mod FileLines
 pub mod FileValue
 pub mod FractionLaws

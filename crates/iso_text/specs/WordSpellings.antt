@@ -5,7 +5,7 @@
 -- Each P words vs: each word spells by P the value at its place
 -- Three P words vs: three words and three values
 -- SpellsName text name, SpellsSite words label place: a name; a label and three coordinates
-use Rattle.std.specs.Prelude.{◌≡◌, ℕ, ℤ, Bool, true, false, not, List, [], ◌∷◌, ◌++◌, ◌<◌, length}
+use Rattle.std.specs.Prelude.{◌≡◌, ℕ, ℤ, true, not, List, [], ◌∷◌, ◌++◌, ◌<◌, length}
 use Rattle.std.specs.List.{list_all}
 use Rattle.iso_text.specs.Cuts.{is_blank}
 use Rattle.iso_text.specs.Name.{is_name}

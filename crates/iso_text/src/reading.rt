@@ -8,7 +8,8 @@ ghost use Rattle.iso_text.specs.Lines.{lines_of};
 ghost use Rattle.iso_text.specs.Ranges.{IsInRange};
 
 use crate::document::Document;
-use crate::draft::{Draft, begin, finished, next};
+use crate::draft::{Draft, begin, finished};
+use crate::line_steps::next;
 use crate::line_words::read_line;
 use crate::lines::first_line;
 use crate::read_error::ReadError;

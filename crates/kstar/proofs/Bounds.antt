@@ -1,8 +1,6 @@
 -- Bounds of products of numbers that were passed by value.
-use Rattle.std.proofs.Common.{◌≡◌, subst, FitsSigned, w32, w64, ◌∙◌, ℕ, ◌*◌, ◌<◌, ◌≤◌, ◌^◌, ap, sym, ℤ, pos, negsuc, ◌*ℤ◌, ◌+ℤ◌, unsigned_abs, to_z, of_z, arith}
-use Rattle.std.specs.Int.{Width}
-use Rattle.std.proofs.lemmas.Int.{ints, unsigned_abs-mul, to_z-of_z, fits_signed_from_abs}
-use Rattle.std.proofs.Math.Nat.{mul-le-mul_left, mul-le-mul_right}
+use Rattle.std.proofs.Common.{◌≡◌, subst, FitsSigned, w32, w64, ◌∙◌, ℕ, ◌<◌, ◌≤◌, ◌^◌, ap, sym, ℤ, pos, negsuc, ◌*ℤ◌, unsigned_abs, arith}
+use Rattle.std.proofs.lemmas.Int.{to_z-of_z, fits_signed_from_abs}
 use Rattle.algebra.specs.PassedLaws.{passed}
 use Rattle.space_ops.specs.Op.{IsWithin}
 use Rattle.space_ops.specs.WithinLaws.{abs_of_within, within_of_abs, within_product}

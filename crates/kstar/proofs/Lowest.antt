@@ -1,9 +1,8 @@
 -- A fraction with the least denominator of its value is in lowest terms.
-use Rattle.std.proofs.Common.{◌≡◌, ℕ, zero, suc, ◌<◌, ◌≤◌, ◌*◌, ◌/◌, refl, sym, ◌∙◌, ap, ℤ, pos, negsuc, ◌+ℤ◌, ◌*ℤ◌, neg_ℤ, unsigned_abs, [], ◌∷◌, arith}
+use Rattle.std.proofs.Common.{◌≡◌, ℕ, zero, suc, ◌<◌, ◌≤◌, ◌*◌, ◌/◌, refl, sym, ◌∙◌, ap, ℤ, pos, negsuc, ◌*ℤ◌, neg_ℤ, unsigned_abs, [], ◌∷◌, arith}
 use Prim.Native.Nat.{◌∣◌}
 use Rattle.std.proofs.Math.IntN.{pos-*ℤ-pos}
 use Rattle.std.proofs.Math.Nat.{one-dvd, div-mul_cancel, mul-le-mul_left, zero-mul, mul-zero}
-use Rattle.std.proofs.lemmas.Int.{ints, unsigned_abs-mul}
 use Rattle.algebra.specs.Whole.{whole}
 use Rattle.algebra.specs.WholeLaws.{whole_ring}
 use Rattle.algebra.specs.Solve.{V, exps, at}

@@ -1,8 +1,8 @@
 -- Tests of remainders.
-use Rattle.std.proofs.Common.{◌≡◌, FitsSigned, refl, ◌∙◌, ℕ, zero, suc, ◌<◌, ◌*◌, ◌%◌, ◌-◌, ap, sym, ℤ, pos, negsuc, ◌*ℤ◌, ◌+ℤ◌, neg_ℤ, unsigned_abs, of_z, true, false, eqb, w32, [], ◌∷◌, arith}
+use Rattle.std.proofs.Common.{◌≡◌, FitsSigned, ◌∙◌, ℕ, ◌<◌, ◌%◌, ◌-◌, ap, sym, ℤ, pos, negsuc, ◌*ℤ◌, of_z, true, false, eqb, w32, arith}
 use Rattle.std.specs.Int.{Width, int_rem_euclid}
-use Rattle.std.specs.Int.RustNames.{int_div, int_rem}
-use Rattle.std.proofs.lemmas.Int.{ints, to_z-of_z, unsigned_abs-mul, quot-rem, rem_below}
+use Rattle.std.specs.Int.RustNames.{int_rem}
+use Rattle.std.proofs.lemmas.Int.{to_z-of_z}
 use Rattle.algebra.specs.MultipleLaws.{multiple-int_rem}
 use Rattle.algebra.specs.PassedLaws.{passed}
 

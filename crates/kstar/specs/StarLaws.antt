@@ -6,8 +6,6 @@
 -- star-orders: the orders of star and little group multiply to the number of rotations
 -- star-subgroup: the little group is a subgroup of the group of rotations
 use Rattle.std.proofs.Common.{◌≡◌, sym, ap, ◌∙◌, subst, ℕ, zero, suc, ◌<◌, ◌*◌, ℤ, List, length, get_or, arith}
-use Rattle.std.proofs.lemmas.List.{get_or_default}
-use Rattle.std.specs.Prelude.{Contains}
 use Rattle.space_ops.specs.Matrix.{Vector}
 use Rattle.space_ops.specs.Group.{Parent, IsParentGroup}
 use Rattle.space_ops.specs.GroupLaws.{rotation_group, rotation_group-lawful}

@@ -8,7 +8,7 @@
 -- HasPhase k t: k.t is a multiple of 1/24
 -- HasPhases lattice k: k.t is a multiple of 1/24 for every centring vector t
 -- turn_of x, phase_of k t: the power p of z = exp(2 pi i / 24) with z^p = exp(-2 pi i k.t), where x is 144 (k.t)
-use Rattle.std.specs.Prelude.{◌≡◌, ℕ, ◌<◌, ◌/◌, ℤ, pos, ◌*ℤ◌, neg_ℤ, length}
+use Rattle.std.specs.Prelude.{ℕ, ◌<◌, ◌/◌, ℤ, pos, neg_ℤ, length}
 use Rattle.std.specs.Int.{int_rem_euclid}
 use Rattle.std.specs.Int.RustNames.{unsigned_abs}
 use Rattle.space_ops.specs.declared.lattice.Lattice.{Lattice}

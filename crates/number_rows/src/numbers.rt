@@ -51,7 +51,7 @@ fn cyclotomic_of(parts: &[i64], n: i64) -> Result<Z24, Wide> {
     let mut sum = Z24::zero();
     for (power, part) in (0..8u8).zip(parts) {
         let factor = Z24::from_real(K24::ratio(*part, n))?;
-        sum = sum.add(Z24::root(power).mul(factor)?)?;
+        sum = sum.add(Z24::root(power % 24).mul(factor)?)?;
     }
     Ok(sum)
 }

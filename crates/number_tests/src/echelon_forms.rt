@@ -4,7 +4,6 @@ use crate::rows::{form_of, has_row, put, three, two};
 use cyclo24::{Field, K24};
 use lin_alg::{Echelon, Grew, LinError};
 use std::alloc::Global;
-use std::test::Fail;
 
 fn insertions_answer(alloc: Global) -> Result<bool, LinError> {
     let mut form = Echelon::new(alloc, 2);
@@ -20,12 +19,12 @@ fn insertions_answer(alloc: Global) -> Result<bool, LinError> {
 }
 
 #[test]
-fn insertions_answer_and_reduce(rt: HostRuntime) -> Result<(), Fail> {
-    assert!(rt; insertions_answer(rt.alloc())?);
-    Ok(())
+fn insertions_answer_and_reduce(rt: HostRuntime) {
+    assert!(rt; insertions_answer(rt.alloc()) == Ok(true));
 }
 
-fn has_free_basis(alloc: Global, form: &Echelon<K24>) -> Result<bool, LinError> {
+fn has_free_basis(alloc: Global) -> Result<bool, LinError> {
+    let form = form_of(alloc, &[[-1, 0, 1]])?;
     if !form.is_whole() || form.len() != 1 || form.width() != 3 {
         return Ok(false);
     }
@@ -34,34 +33,47 @@ fn has_free_basis(alloc: Global, form: &Echelon<K24>) -> Result<bool, LinError> 
 }
 
 #[test]
-fn free_bases(rt: HostRuntime) -> Result<(), Fail> {
-    let form = form_of(rt.alloc(), &[[-1, 0, 1]])?;
-    assert!(rt; has_free_basis(rt.alloc(), &form)?);
-    Ok(())
+fn free_bases(rt: HostRuntime) {
+    assert!(rt; has_free_basis(rt.alloc()) == Ok(true));
 }
 
-fn are_one_form(one: &Echelon<K24>, other: &Echelon<K24>) -> bool {
+const ROWS: [[i64; 3]; 2] = [[2, 1, 3], [4, 2, 7]];
+
+const SCRAMBLED: [[i64; 3]; 4] = [[0, 0, -5], [6, 3, 10], [-2, -1, -3], [2, 1, 1]];
+
+const MORE: [[i64; 3]; 3] = [[2, 1, 3], [4, 2, 7], [0, 1, 0]];
+
+fn are_equal(one: &Echelon<K24>, other: &Echelon<K24>) -> bool {
     one == other && one.cmp(other).is_eq()
 }
 
-#[test]
-fn one_form_of_a_span(rt: HostRuntime) -> Result<(), Fail> {
-    let alloc = rt.alloc();
-    let form = form_of(alloc, &[[2, 1, 3], [4, 2, 7]])?;
-    let scrambled = form_of(alloc, &[[0, 0, -5], [6, 3, 10], [-2, -1, -3], [2, 1, 1]])?;
-    assert!(rt; are_one_form(&form, &scrambled));
+fn are_alike(alloc: Global, rows: &[[i64; 3]], others: &[[i64; 3]]) -> Result<bool, LinError> {
+    let form = form_of(alloc, rows)?;
+    let other = form_of(alloc, others)?;
+    Ok(are_equal(&form, &other))
+}
+
+fn is_copied(alloc: Global) -> Result<bool, LinError> {
+    let form = form_of(alloc, &ROWS)?;
     let copy = form.copy(alloc)?;
-    assert!(rt; are_one_form(&form, &copy));
-    Ok(())
+    Ok(copy == form)
 }
 
 #[test]
-fn a_larger_span(rt: HostRuntime) -> Result<(), Fail> {
-    let form = form_of(rt.alloc(), &[[2, 1, 3], [4, 2, 7]])?;
-    let more = form_of(rt.alloc(), &[[2, 1, 3], [4, 2, 7], [0, 1, 0]])?;
-    assert!(rt; !are_one_form(&form, &more));
-    assert!(rt; has_row(&more, 0, &three([1, 0, 0]), 0));
-    Ok(())
+fn one_form_of_a_span(rt: HostRuntime) {
+    assert!(rt; are_alike(rt.alloc(), &ROWS, &SCRAMBLED) == Ok(true));
+    assert!(rt; is_copied(rt.alloc()) == Ok(true));
+}
+
+fn is_larger(alloc: Global) -> Result<bool, LinError> {
+    let form = form_of(alloc, &ROWS)?;
+    let more = form_of(alloc, &MORE)?;
+    Ok(form != more && has_row(&more, 0, &three([1, 0, 0]), 0))
+}
+
+#[test]
+fn a_larger_span(rt: HostRuntime) {
+    assert!(rt; is_larger(rt.alloc()) == Ok(true));
 }
 
 fn is_member(form: &Echelon<K24>, row: [i64; 3]) -> Result<bool, LinError> {
@@ -81,21 +93,20 @@ fn rest(form: &Echelon<K24>, row: [i64; 3]) -> Result<[K24; 3], LinError> {
     Ok(values)
 }
 
-fn members_answer(form: &Echelon<K24>) -> Result<bool, LinError> {
-    let found = [
-        is_member(form, [0, 0, 0])?,
-        is_member(form, [3, 9, 3])?,
-        is_member(form, [0, 0, 1])?,
-    ];
-    Ok(found == [true, true, false] && rest(form, [5, 4, 3])? == three([7, 0, 0]))
+fn members_answer(alloc: Global) -> Result<bool, LinError> {
+    let mut form = form_of(alloc, &[[1, 1, 0], [0, 2, 1]])?;
+    form.reserve(2)?;
+    for (row, member) in [([0, 0, 0], true), ([3, 9, 3], true), ([0, 0, 1], false)] {
+        if is_member(&form, row)? != member {
+            return Ok(false);
+        }
+    }
+    Ok(rest(&form, [5, 4, 3])? == three([7, 0, 0]))
 }
 
 #[test]
-fn members_and_what_is_left(rt: HostRuntime) -> Result<(), Fail> {
-    let mut form = form_of(rt.alloc(), &[[1, 1, 0], [0, 2, 1]])?;
-    form.reserve(2)?;
-    assert!(rt; members_answer(&form)?);
-    Ok(())
+fn members_and_what_is_left(rt: HostRuntime) {
+    assert!(rt; members_answer(rt.alloc()) == Ok(true));
 }
 
 fn ends_as_wide(alloc: Global) -> Result<bool, LinError> {
@@ -108,7 +119,6 @@ fn ends_as_wide(alloc: Global) -> Result<bool, LinError> {
 }
 
 #[test]
-fn a_wide_insertion_ends_the_form(rt: HostRuntime) -> Result<(), Fail> {
-    assert!(rt; ends_as_wide(rt.alloc())?);
-    Ok(())
+fn a_wide_insertion_ends_the_form(rt: HostRuntime) {
+    assert!(rt; ends_as_wide(rt.alloc()) == Ok(true));
 }

@@ -1,37 +1,27 @@
 // Values through the trait, as keys, in order, and from terms.
+use crate::values::{has_real_text, has_text, number, square_roots};
 use cyclo24::{Field, K24, Wide, Z24};
 use indexmap::IndexSet;
 use iso_text::{Term, Unit};
-use std::test::Fail;
+use std::alloc::Global;
 
-// The square roots of 2, 3 and 6, which are twice a cosine or a product of two.
-fn square_roots() -> Result<[K24; 3], Wide> {
-    let two = Z24::root(3).add(Z24::root(21))?.real_part()?;
-    let three = Z24::root(2).add(Z24::root(22))?.real_part()?;
-    Ok([two, three, two.mul(three)?])
-}
-
-fn squares() -> Result<[K24; 3], Wide> {
+fn are_square_roots() -> Result<bool, Wide> {
     let [two, three, six] = square_roots()?;
-    Ok([two.mul(two)?, three.mul(three)?, six.mul(six)?])
+    let squares = [two.mul(two)?, three.mul(three)?, six.mul(six)?];
+    Ok(squares == [K24::whole(2), K24::whole(3), K24::whole(6)])
 }
 
-#[test]
-fn the_square_root_of_two(rt: HostRuntime) -> Result<(), Fail> {
+fn is_root_of_two(alloc: Global) -> Result<bool, Wide> {
     let root = Z24::root(3).add(Z24::root(21))?;
-    assert!(rt; root.imag_part()?.is_zero());
-    assert!(rt; Z24::from_real(root.real_part()?)? == root);
-    assert!(rt; squares()? == [K24::whole(2), K24::whole(3), K24::whole(6)]);
-    let two = root.real_part()?.print(rt.alloc())?;
-    assert!(rt; two.as_slice() == b"r2".as_slice());
-    Ok(())
+    let real = root.real_part()?;
+    let back = Z24::from_real(real)?;
+    Ok(root.imag_part()?.is_zero() && back == root && has_real_text(alloc, real, "r2"))
 }
 
 #[test]
-fn a_product_of_roots(rt: HostRuntime) -> Result<(), Fail> {
-    let product = Z24::root(1).mul(Z24::root(7))?.print(rt.alloc())?;
-    assert!(rt; product.as_slice() == b"-1+z4".as_slice());
-    Ok(())
+fn the_square_root_of_two(rt: HostRuntime) {
+    assert!(rt; are_square_roots() == Ok(true));
+    assert!(rt; is_root_of_two(rt.alloc()) == Ok(true));
 }
 
 // Whether the powers of exp(2 pi i / 24) follow one another.
@@ -46,10 +36,14 @@ fn are_powers() -> Result<bool, Wide> {
     Ok(power == Z24::one())
 }
 
+fn is_product_of_roots(alloc: Global) -> Result<bool, Wide> {
+    Ok(has_text(alloc, Z24::root(1).mul(Z24::root(7))?, "-1+z4"))
+}
+
 #[test]
-fn powers(rt: HostRuntime) -> Result<(), Fail> {
-    assert!(rt; are_powers()?);
-    Ok(())
+fn powers(rt: HostRuntime) {
+    assert!(rt; are_powers() == Ok(true));
+    assert!(rt; is_product_of_roots(rt.alloc()) == Ok(true));
 }
 
 const TERMS: [Term; 6] = [
@@ -86,11 +80,9 @@ const TERMS: [Term; 6] = [
 ];
 
 #[test]
-fn sums_of_terms(rt: HostRuntime) -> Result<(), Fail> {
-    let text = Z24::from_terms(&TERMS).print(rt.alloc())?;
+fn sums_of_terms(rt: HostRuntime) {
     let sum = "1/2+5/8*z1-4*z2+5/8*z3+19/24*z5+7*z6-2/3*z7";
-    assert!(rt; text.as_slice() == sum.as_bytes());
-    Ok(())
+    assert!(rt; has_text(rt.alloc(), Z24::from_terms(&TERMS), sum));
 }
 
 fn cube<F: Field>(x: F) -> Result<F, Wide> {
@@ -104,58 +96,64 @@ fn distributes<F: Field>(x: F, y: F) -> Result<bool, Wide> {
     Ok(left.sub(right)?.sub(x)?.is_zero())
 }
 
-// (a + b r2 + c r3 + d r6) / n
-fn number(parts: [i64; 4], n: u8) -> Result<K24, Wide> {
-    let n = K24::ratio(1, i64::from(n.max(1)));
-    let [two, three, six] = square_roots()?;
-    let mut sum = K24::zero();
-    for (root, part) in [K24::one(), two, three, six].iter().zip(parts) {
-        sum = sum.add(root.mul(K24::ratio(part, 1))?)?;
-    }
-    sum.mul(n)
+fn distribute() -> Result<bool, Wide> {
+    let x = number([1, -2, 3, 4], K24::ratio(1, 5))?;
+    distributes(x, number([-7, 2, 0, 1], K24::ratio(1, 6))?)
 }
 
 #[test]
-fn used_through_the_trait(rt: HostRuntime) -> Result<(), Fail> {
-    assert!(rt; distributes(number([1, -2, 3, 4], 5)?, number([-7, 2, 0, 1], 6)?)?);
-    assert!(rt; cube(Z24::root(11))? == Z24::root(9));
+fn used_through_the_trait(rt: HostRuntime) {
+    assert!(rt; distribute() == Ok(true));
+    assert!(rt; cube(Z24::root(11)) == Ok(Z24::root(9)));
     assert!(rt; K24::zero().is_zero());
     assert!(rt; !K24::one().is_zero());
     assert!(rt; K24::one() == K24::ratio(6, 6));
-    Ok(())
 }
 
-const RATIOS: [(i64, i64); 5] = [(1, 2), (2, 4), (1, 3), (-3, 6), (5, 10)];
-
-#[test]
-fn real_keys(rt: HostRuntime) -> Result<(), Fail> {
-    let mut seen: IndexSet<K24> = IndexSet::new(rt.alloc());
-    for (n, d) in RATIOS {
-        if d > 0 {
-            seen.insert(K24::ratio(n, d))?;
+// Inserts each value, and tells whether the set was without it just where it should be.
+fn are_fresh<F: Field + Drop>(alloc: Global, values: &[(F, bool)]) -> bool {
+    let mut keys = IndexSet::new(alloc);
+    for (x, fresh) in values {
+        match keys.insert(*x) {
+            Ok(found) if found == *fresh => {}
+            _ => return false,
         }
     }
-    assert!(rt; seen.len() == 3);
-    Ok(())
+    true
 }
 
 #[test]
-fn cyclotomic_keys(rt: HostRuntime) -> Result<(), Fail> {
-    let mut keys: IndexSet<Z24> = IndexSet::new(rt.alloc());
-    let sum = Z24::root(4).sub(Z24::one())?;
-    let first = keys.insert(Z24::root(8))?;
-    let second = keys.insert(sum)?;
-    let third = keys.insert(Z24::root(9))?;
-    assert!(rt; [first, second, third] == [true, false, true]);
-    assert!(rt; keys.len() == 2);
-    Ok(())
+fn real_keys(rt: HostRuntime) {
+    let values = [
+        (K24::ratio(1, 2), true),
+        (K24::ratio(2, 4), false),
+        (K24::ratio(1, 3), true),
+        (K24::ratio(-3, 6), true),
+        (K24::ratio(5, 10), false),
+    ];
+    assert!(rt; are_fresh(rt.alloc(), &values));
 }
 
 #[test]
-fn order_by_denominator_first(rt: HostRuntime) -> Result<(), Fail> {
+fn cyclotomic_keys(rt: HostRuntime) {
+    match Z24::root(4).sub(Z24::one()) {
+        Ok(sum) => {
+            let values = [(Z24::root(8), true), (sum, false), (Z24::root(9), true)];
+            assert!(rt; are_fresh(rt.alloc(), &values))
+        }
+        Err(_) => assert!(rt; false),
+    }
+}
+
+fn half_of_roots_in_order() -> Result<bool, Wide> {
+    let half = K24::ratio(1, 2);
+    Ok(number([0, 0, 0, 1], half)? < number([0, 1, 0, 0], half)?)
+}
+
+#[test]
+fn order_by_denominator_first(rt: HostRuntime) {
     let half = K24::ratio(1, 2);
     assert!(rt; K24::whole(5) < half);
     assert!(rt; half < K24::ratio(-1, 3));
-    assert!(rt; number([0, 0, 0, 1], 2)? < number([0, 1, 0, 0], 2)?);
-    Ok(())
+    assert!(rt; half_of_roots_in_order() == Ok(true));
 }

@@ -3,9 +3,12 @@ use crate::rows::{has_row, put};
 use cyclo24::{Field, Wide, Z24};
 use lin_alg::{Echelon, LinError};
 use std::alloc::Global;
-use std::test::Fail;
 
-// These powers of exp(2 pi i / 24).
+// Rows of powers of exp(2 pi i / 24), and two of their span beside the second.
+const ROWS: [[u8; 3]; 2] = [[9, 12, 7], [9, 20, 11]];
+
+const SCRAMBLED: [[u8; 3]; 3] = [[22, 9, 0], [2, 5, 0], [9, 20, 11]];
+
 fn roots(powers: [u8; 3]) -> [Z24; 3] {
     [
         Z24::root(powers[0] % 24),
@@ -22,44 +25,56 @@ fn form_of_roots(alloc: Global, rows: &[[u8; 3]]) -> Result<Echelon<Z24>, LinErr
     Ok(form)
 }
 
-// The reduced rows of (z^9, z^12, z^7) and (z^9, z^20, z^11).
-fn reduced_rows() -> Result<[[Z24; 3]; 2], Wide> {
-    let entry = Z24::root(2).add(Z24::root(22))?;
-    Ok([
-        [Z24::root(5), Z24::one(), Z24::zero()],
-        [entry, Z24::zero(), Z24::one()],
-    ])
+// The first reduced row of the span.
+fn first_row() -> [Z24; 3] {
+    [Z24::root(5), Z24::one(), Z24::zero()]
 }
 
-fn has_reduced_rows(form: &Echelon<Z24>) -> Result<bool, Wide> {
-    let [first, second] = reduced_rows()?;
-    Ok(form.len() == 2 && has_row(form, 0, &first, 1) && has_row(form, 1, &second, 2))
+// The second one.
+fn second_row() -> Result<[Z24; 3], LinError> {
+    match Z24::root(2).add(Z24::root(22)) {
+        Ok(entry) => Ok([entry, Z24::zero(), Z24::one()]),
+        Err(Wide) => Err(LinError::Wide),
+    }
+}
+
+fn has_reduced_rows(alloc: Global) -> Result<bool, LinError> {
+    let second = second_row()?;
+    let form = form_of_roots(alloc, &ROWS)?;
+    Ok(form.len() == 2 && has_row(&form, 0, &first_row(), 1) && has_row(&form, 1, &second, 2))
 }
 
 #[test]
-fn rows_of_roots_of_unity(rt: HostRuntime) -> Result<(), Fail> {
-    let form = form_of_roots(rt.alloc(), &[[9, 12, 7], [9, 20, 11]])?;
-    assert!(rt; has_reduced_rows(&form)?);
-    Ok(())
+fn rows_of_roots_of_unity(rt: HostRuntime) {
+    assert!(rt; has_reduced_rows(rt.alloc()) == Ok(true));
 }
 
-// The form of the reduced rows, the second first.
-fn reduced_form(alloc: Global) -> Result<Echelon<Z24>, LinError> {
+fn is_form_of_roots(
+    alloc: Global,
+    form: &Echelon<Z24>,
+    rows: &[[u8; 3]],
+) -> Result<bool, LinError> {
+    Ok(form_of_roots(alloc, rows)? == *form)
+}
+
+fn are_alike(alloc: Global, rows: &[[u8; 3]], others: &[[u8; 3]]) -> Result<bool, LinError> {
+    let form = form_of_roots(alloc, rows)?;
+    is_form_of_roots(alloc, &form, others)
+}
+
+// Whether the form of the reduced rows, the second first, is that of the rows.
+fn is_reduced_form(alloc: Global) -> Result<bool, LinError> {
     let mut form = Echelon::new(alloc, 3);
-    let [mut first, mut second] = reduced_rows()?;
+    let mut second = second_row()?;
+    let mut first = first_row();
     put(&mut form, &mut second)?;
     put(&mut form, &mut first)?;
-    Ok(form)
+    is_form_of_roots(alloc, &form, &ROWS)
 }
 
 #[test]
-fn one_form_of_roots_of_unity(rt: HostRuntime) -> Result<(), Fail> {
-    let form = form_of_roots(rt.alloc(), &[[9, 12, 7], [9, 20, 11]])?;
-    let scrambled = form_of_roots(rt.alloc(), &[[22, 9, 0], [2, 5, 0], [9, 20, 11]])?;
-    assert!(rt; form == scrambled);
-    let reduced = reduced_form(rt.alloc())?;
-    assert!(rt; form == reduced);
-    let less = form_of_roots(rt.alloc(), &[[9, 12, 7]])?;
-    assert!(rt; form != less);
-    Ok(())
+fn one_form_of_roots_of_unity(rt: HostRuntime) {
+    assert!(rt; are_alike(rt.alloc(), &ROWS, &SCRAMBLED) == Ok(true));
+    assert!(rt; is_reduced_form(rt.alloc()) == Ok(true));
+    assert!(rt; are_alike(rt.alloc(), &ROWS, &ROWS[..1]) == Ok(false));
 }

@@ -15,6 +15,8 @@ mod matrices;
 #[cfg(test)]
 mod measured_forms;
 #[cfg(test)]
-mod measured_sums;
-#[cfg(test)]
 mod rows;
+#[cfg(test)]
+mod sign;
+#[cfg(test)]
+mod values;

@@ -6,7 +6,6 @@ use cyclo24::{Field, K24, Wide};
 use iso_text::NoMemory;
 use lin_alg::{LinError, Matrix, Row, are_independent, solve};
 use std::alloc::Global;
-use std::test::Fail;
 
 /// Whether row i of the matrix is this row of whole numbers.
 pub fn row_is(matrix: &Matrix<K24>, i: usize, row: &[i64]) -> bool {
@@ -52,12 +51,10 @@ fn is_product(
 }
 
 #[test]
-fn products(rt: HostRuntime) -> Result<(), Fail> {
-    let alloc = rt.alloc();
+fn products(rt: HostRuntime) {
     let a = [[1, 1], [0, 1]];
-    assert!(rt; is_product(alloc, a, a, [[1, 2], [0, 1]])?);
-    assert!(rt; is_product(alloc, a, [[0, 2], [3, 0]], [[3, 2], [3, 0]])?);
-    Ok(())
+    assert!(rt; is_product(rt.alloc(), a, a, [[1, 2], [0, 1]]) == Ok(true));
+    assert!(rt; is_product(rt.alloc(), a, [[0, 2], [3, 0]], [[3, 2], [3, 0]]) == Ok(true));
 }
 
 // Whether the matrix is square, and the other one has its shape.
@@ -112,27 +109,25 @@ fn is_solution(alloc: Global, rows: &Matrix<K24>, want: &[K24]) -> Result<bool, 
     }
 }
 
-#[test]
-fn solutions(rt: HostRuntime) -> Result<(), Fail> {
-    let alloc = rt.alloc();
+fn has_solution(alloc: Global) -> Result<bool, LinError> {
     let rows = square(alloc, [[1, 1], [0, 2]])?;
-    assert!(rt; is_solution(alloc, &rows, &[K24::ratio(1, 1), K24::ratio(1, 2)])?);
-    Ok(())
+    is_solution(alloc, &rows, &[K24::ratio(1, 1), K24::ratio(1, 2)])
 }
 
-#[test]
-fn no_solutions(rt: HostRuntime) -> Result<(), Fail> {
-    let alloc = rt.alloc();
+fn has_no_solution(alloc: Global) -> Result<bool, LinError> {
     let mut one = Matrix::new(alloc, 1, 2)?;
     set_row(&mut one, 0, [1, 1]);
-    assert!(rt; are_independent(alloc, &one)?);
-    assert!(rt; is_solution(alloc, &one, &[])?);
-    Ok(())
+    Ok(are_independent(alloc, &one)? && is_solution(alloc, &one, &[])?)
+}
+
+fn depend(alloc: Global) -> Result<bool, LinError> {
+    let twice = square(alloc, [[1, 1], [2, 2]])?;
+    Ok(!are_independent(alloc, &twice)?)
 }
 
 #[test]
-fn rows_that_depend(rt: HostRuntime) -> Result<(), Fail> {
-    let twice = square(rt.alloc(), [[1, 1], [2, 2]])?;
-    assert!(rt; !are_independent(rt.alloc(), &twice)?);
-    Ok(())
+fn solutions(rt: HostRuntime) {
+    assert!(rt; has_solution(rt.alloc()) == Ok(true));
+    assert!(rt; has_no_solution(rt.alloc()) == Ok(true));
+    assert!(rt; depend(rt.alloc()) == Ok(true));
 }

@@ -35,15 +35,14 @@ fn insertions(alloc: Global, rows: usize, row: &mut [K24]) -> Result<bool, LinEr
 }
 
 #[test]
-fn of_24_by_24(rt: HostRuntime) -> Result<(), Fail> {
+fn of_24_by_24(rt: HostRuntime) {
     let mut row = [K24::zero(); 24];
-    assert!(rt; insertions(rt.alloc(), 24, &mut row)?);
-    Ok(())
+    assert!(rt; insertions(rt.alloc(), 24, &mut row) == Ok(true));
 }
 
 #[test]
 fn of_27_by_1152(rt: HostRuntime) -> Result<(), Fail> {
     let mut row = vec![in rt.alloc(); K24::zero(); 1152]?;
-    assert!(rt; insertions(rt.alloc(), 27, &mut row)?);
+    assert!(rt; insertions(rt.alloc(), 27, &mut row) == Ok(true));
     Ok(())
 }

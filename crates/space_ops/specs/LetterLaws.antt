@@ -22,7 +22,7 @@ some_value : (x y : Lattice) → Some x ≡ Some y → x ≡ y
 some_value x y h = cc h
 
 among-letter : (ls : List Lattice) (letter : ℕ) (lattice : Lattice) → lattice_among ls letter ≡ Some lattice → letter ≡ letter_of lattice
-among-letter [] letter lattice h = cc h
+among-letter [] letter lattice = λ h. cc h
 among-letter (l ∷ ls) letter lattice =
     by_test (λ b. (if b then Some l else lattice_among ls letter) ≡ Some lattice → letter ≡ letter_of lattice) (letter == letter_of l)
     (λ e h. eqb-true letter (letter_of l) e ∙ ap letter_of (some_value l lattice h)) (λ e h. among-letter ls letter lattice h)

@@ -88,7 +88,6 @@ impl Lattice {
 }
 
 /// A lattice is that of its letter, and a letter is that of the lattice that it names.
-#[tactic(auto, using(crate::specs::LetterLaws::letter-back, crate::specs::LetterLaws::lattice-letter))]
 pub fn law_of_letters()
     ensures back { (lattice : Lattice) → lattice_of (letter_of lattice) ≡ Some lattice }
     ensures only { (letter : ℕ) (lattice : Lattice) → lattice_of letter ≡ Some lattice → letter ≡ letter_of lattice }

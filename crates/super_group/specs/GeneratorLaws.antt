@@ -22,7 +22,7 @@ use Rattle.space_ops.specs.WordLaws.{translation, back_translation, word-step, w
 use Rattle.space_ops.specs.LatticeLaws.{zero-lattice, sum-lattice, minus-lattice, centring-lattice}
 use Rattle.super_group.specs.Quotient.{SupercellGroup, IsQuotient, IsMember, IsNumbered, order_of, element_of, number_of, quotient_group, motions_of, generators_of}
 use Rattle.super_group.specs.QuotientLaws.{quotient-numbered, quotient-lawful, number-product, number-identity}
-use Rattle.algebra.specs.GeneratedLaws.{identity-word, generator-word, product-word, inverse-word}
+use Rattle.algebra.specs.GeneratedLaws.{words-generate, identity-word, generator-word, product-word, inverse-word}
 use Rattle.super_group.specs.MotionLaws.{motion_at, IsMotion, generator-motion, centring-motion, unit-motion, unit-lattice, motion-member}
 
 -- what holds of 12 along an axis, of sums and of opposites holds of each multiple
@@ -186,5 +186,6 @@ module _ (s : SupercellGroup) (quotient : IsQuotient s) where
   member-word g m = subst HasNumberWord m.value (steps-number m.word m.steps)
 
   pub generators-generate : IsGenerated (quotient_group s) (length (generators_of s)) (λ i. slice_index_or (generators_of s) i 0)
-  generators-generate a l =
-      subst (HasWord (quotient_group s) (length (generators_of s)) number_at) (numbered.number-element a l) (member-word (element_of s a) (numbered.element-member a l))
+  generators-generate =
+      words-generate (quotient_group s) law (length (generators_of s)) number_at below
+      (λ a l. subst (HasWord (quotient_group s) (length (generators_of s)) number_at) (numbered.number-element a l) (member-word (element_of s a) (numbered.element-member a l)))

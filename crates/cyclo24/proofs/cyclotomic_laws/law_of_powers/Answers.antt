@@ -1,4 +1,5 @@
 use Rattle.cyclo24.specs.Z24Roots.{times-power, power-8, power-12, power-6, from_real-r2, from_real-r3, from_real-r6}
+use Rattle.cyclo24.specs.CoefficientsLaws.{conj-power}
 use Rattle.cyclo24.proofs.cyclotomic_laws.law_of_powers.Goals as goal
 
 pub returns-clause-products : goal.returns-clause-products
@@ -21,3 +22,6 @@ returns-clause-three c = from_real-r3
 
 pub returns-clause-six : goal.returns-clause-six
 returns-clause-six c = from_real-r6
+
+pub returns-clause-conjugates : goal.returns-clause-conjugates
+returns-clause-conjugates c = conj-power

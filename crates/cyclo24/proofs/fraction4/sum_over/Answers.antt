@@ -21,8 +21,8 @@ returns-in_err-a3 c = then_ok _ _ c.joined.ensures c.in_ok-a0.was (then_ok _ _ c
 
 pub returns-in_err-d : goal.returns-in_err-d
 unfolding sum_over fraction
-returns-in_err-d c = then_ok _ _ c.joined.ensures c.in_ok-a0.was (then_ok _ _ c.joined-2.ensures c.in_ok-a1.was (then_ok _ _ c.joined-3.ensures c.in_ok-a2.was (then_ok _ _ c.joined-4.ensures c.in_ok-a3.was (then_err _ _ c.product_of_two.ensures c.in_err-d.was (search rules)))))
+returns-in_err-d c = then_ok _ _ c.joined.ensures c.in_ok-a0.was (then_ok _ _ c.joined-2.ensures c.in_ok-a1.was (then_ok _ _ c.joined-3.ensures c.in_ok-a2.was (then_ok _ _ c.joined-4.ensures c.in_ok-a3.was (then_err _ _ c.times.ensures c.in_err-d.was (search rules)))))
 
 pub returns : goal.returns
 unfolding sum_over fraction
-returns c = then_ok _ _ c.joined.ensures c.in_ok-a0.was (then_ok _ _ c.joined-2.ensures c.in_ok-a1.was (then_ok _ _ c.joined-3.ensures c.in_ok-a2.was (then_ok _ _ c.joined-4.ensures c.in_ok-a3.was (then_ok _ _ c.product_of_two.ensures c.in_ok-d.was (sym (answer_give _))))))
+returns c = then_ok _ _ c.joined.ensures c.in_ok-a0.was (then_ok _ _ c.joined-2.ensures c.in_ok-a1.was (then_ok _ _ c.joined-3.ensures c.in_ok-a2.was (then_ok _ _ c.joined-4.ensures c.in_ok-a3.was (then_ok _ _ c.times.ensures c.in_ok-d.was (sym (answer_give _))))))

@@ -1,24 +1,31 @@
-use Rattle.std.proofs.Common.{rules, ◌∙◌, sym}
-use Rattle.cyclo24.specs.CheckedLaws.{answer_ok, answer_err}
-use Rattle.cyclo24.specs.Written8.{product}
+use Rattle.std.proofs.Common.{rules, ◌≡◌, refl}
+use Rattle.cyclo24.specs.declared.fraction8.Fraction8.{Fraction8}
 use Rattle.cyclo24.specs.ExactZ24.{z24_laws}
-use Rattle.cyclo24.specs.Z24Calls.{exact_of8, made_low8, made_value8, wide_ok, product_ready8, product_z24}
+use Rattle.cyclo24.specs.Written8.{numbers8, product}
+use Rattle.cyclo24.specs.Lowest8Laws.{IsAnswer}
+use Rattle.cyclo24.specs.Z24Calls.{IsLow8, exact_of8, low_positive8, made_low8, made_value8, wide_ok, product_z24}
 use Rattle.cyclo24.proofs.z24.Z24Field.mul.Goals as goal
 
-pub returns-in_err-product-clause-wide : goal.returns-in_err-product-clause-wide
-returns-in_err-product-clause-wide c = let h = answer_err (product c.args.self.fraction c.args.other.fraction) _ (sym c.product.ensures ∙ c.in_err-product.was) in search (rules, h)
+-- an answer is the exact result
+numbers : (a b s : Fraction8) (h : IsLow8 a) (k : IsLow8 b) → IsAnswer (product a b) s → numbers8 s ≡ (z24_laws.times (exact_of8 a h) (exact_of8 b k)).0
+numbers a b s h k e = product_z24 a b (product a b).value s h k refl e.lowest
 
-pub reduced-requires-clause-narrow : goal.reduced-requires-clause-narrow
-reduced-requires-clause-narrow c = (product_ready8 c.args.self.fraction c.args.other.fraction c.in_ok-product.product c.args.self.lowest c.args.other.lowest (sym c.product.ensures ∙ c.in_ok-product.was)).0
+pub product-requires-clause-positive : goal.product-requires-clause-positive
+product-requires-clause-positive c = low_positive8 c.args.self.fraction c.args.self.lowest
 
-pub reduced-requires-clause-positive : goal.reduced-requires-clause-positive
-reduced-requires-clause-positive c = (product_ready8 c.args.self.fraction c.args.other.fraction c.in_ok-product.product c.args.self.lowest c.args.other.lowest (sym c.product.ensures ∙ c.in_ok-product.was)).1
+pub product-requires-clause-positive_other : goal.product-requires-clause-positive_other
+product-requires-clause-positive_other c = low_positive8 c.args.other.fraction c.args.other.lowest
+
+pub returns-in_err-fraction-clause-wide : goal.returns-in_err-fraction-clause-wide
+returns-in_err-fraction-clause-wide c = let h = c.in_err-fraction.ensures.wide in search (rules, h)
 
 pub invariant_of-result : goal.invariant_of-result
-invariant_of-result c = record { narrow = c.reduced.ensures.narrow; lowest = made_low8 c.reduced.result (z24_laws.times (exact_of8 c.args.self.fraction c.args.self.lowest) (exact_of8 c.args.other.fraction c.args.other.lowest)) (product_z24 c.args.self.fraction c.args.other.fraction c.in_ok-product.product c.reduced.result c.args.self.lowest c.args.other.lowest (sym c.product.ensures ∙ c.in_ok-product.was) c.reduced.ensures.lowest) }
+invariant_of-result c =
+    let e = c.in_ok-fraction.ensures.ok in
+    record { narrow = e.narrow; lowest = made_low8 c.in_ok-fraction.fraction (z24_laws.times (exact_of8 c.args.self.fraction c.args.self.lowest) (exact_of8 c.args.other.fraction c.args.other.lowest)) (numbers c.args.self.fraction c.args.other.fraction c.in_ok-fraction.fraction c.args.self.lowest c.args.other.lowest e) }
 
 pub returns-clause-exact : goal.returns-clause-exact
-returns-clause-exact c = let h = made_value8 c.reduced.result (z24_laws.times (exact_of8 c.args.self.fraction c.args.self.lowest) (exact_of8 c.args.other.fraction c.args.other.lowest)) (product_z24 c.args.self.fraction c.args.other.fraction c.in_ok-product.product c.reduced.result c.args.self.lowest c.args.other.lowest (sym c.product.ensures ∙ c.in_ok-product.was) c.reduced.ensures.lowest) in search h
+returns-clause-exact c = let h = made_value8 c.in_ok-fraction.fraction (z24_laws.times (exact_of8 c.args.self.fraction c.args.self.lowest) (exact_of8 c.args.other.fraction c.args.other.lowest)) (numbers c.args.self.fraction c.args.other.fraction c.in_ok-fraction.fraction c.args.self.lowest c.args.other.lowest c.in_ok-fraction.ensures.ok) in search h
 
 pub returns-clause-wide : goal.returns-clause-wide
-returns-clause-wide c = let h = (answer_ok (product c.args.self.fraction c.args.other.fraction) c.in_ok-product.product (sym c.product.ensures ∙ c.in_ok-product.was)).0 in wide_ok _ h
+returns-clause-wide c = let h = c.in_ok-fraction.ensures.ok.written in wide_ok _ h

@@ -1,6 +1,6 @@
 use Rattle.iso_text.specs.Lines.{lines_of}
+use Rattle.iso_text.proofs.FilesUnique.{read_only}
 use Rattle.iso_text.proofs.RangeLemmas.{read-in_range}
-use Rattle.iso_text.proofs.Starts.{read_only}
 use Rattle.iso_text.proofs.document.Document.read.Goals as goal
 
 pub returns-clause-ranges : goal.returns-clause-ranges

@@ -1,0 +1,28 @@
+use Rattle.std.proofs.Common.{rules, sym}
+use Rattle.cyclo24.specs.Written4.{product, fraction}
+use Rattle.cyclo24.specs.CheckedLaws.{then_ok, then_err, answer_give}
+use Rattle.cyclo24.proofs.fraction4.Fraction4.written_product.Goals as goal
+
+pub returns-in_err-a0 : goal.returns-in_err-a0
+unfolding product fraction
+returns-in_err-a0 c = then_err _ _ c.product0.ensures c.in_err-a0.was (search rules)
+
+pub returns-in_err-a1 : goal.returns-in_err-a1
+unfolding product fraction
+returns-in_err-a1 c = then_ok _ _ c.product0.ensures c.in_ok-a0.was (then_err _ _ c.product1.ensures c.in_err-a1.was (search rules))
+
+pub returns-in_err-a2 : goal.returns-in_err-a2
+unfolding product fraction
+returns-in_err-a2 c = then_ok _ _ c.product0.ensures c.in_ok-a0.was (then_ok _ _ c.product1.ensures c.in_ok-a1.was (then_err _ _ c.product2.ensures c.in_err-a2.was (search rules)))
+
+pub returns-in_err-a3 : goal.returns-in_err-a3
+unfolding product fraction
+returns-in_err-a3 c = then_ok _ _ c.product0.ensures c.in_ok-a0.was (then_ok _ _ c.product1.ensures c.in_ok-a1.was (then_ok _ _ c.product2.ensures c.in_ok-a2.was (then_err _ _ c.product3.ensures c.in_err-a3.was (search rules))))
+
+pub returns-in_err-d : goal.returns-in_err-d
+unfolding product fraction
+returns-in_err-d c = then_ok _ _ c.product0.ensures c.in_ok-a0.was (then_ok _ _ c.product1.ensures c.in_ok-a1.was (then_ok _ _ c.product2.ensures c.in_ok-a2.was (then_ok _ _ c.product3.ensures c.in_ok-a3.was (then_err _ _ c.times.ensures c.in_err-d.was (search rules)))))
+
+pub returns : goal.returns
+unfolding product fraction
+returns c = then_ok _ _ c.product0.ensures c.in_ok-a0.was (then_ok _ _ c.product1.ensures c.in_ok-a1.was (then_ok _ _ c.product2.ensures c.in_ok-a2.was (then_ok _ _ c.product3.ensures c.in_ok-a3.was (then_ok _ _ c.times.ensures c.in_ok-d.was (sym (answer_give _))))))

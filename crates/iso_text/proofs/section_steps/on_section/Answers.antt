@@ -1,0 +1,17 @@
+use Rattle.std.proofs.Common.{◌≡◌, ◌∙◌, ap, sym, true, if◌then◌else◌, Some, None, ℕ}
+use Rattle.std.specs.Prelude.{option_and_then}
+use Rattle.iso_text.specs.Draft.{section_takes, section_of, with_line, on_section}
+use Rattle.iso_text.specs.FileValue.{File}
+use Rattle.iso_text.specs.declared.line_kinds.Line.{Line}
+use Rattle.iso_text.specs.declared.line_kinds.Line.TheVariants.{End}
+use Rattle.iso_text.proofs.Steps.{if_ok}
+use Rattle.iso_text.proofs.section_steps.on_section.Goals as goal
+
+by_section : (line : Line) (f : File) (n : ℕ) → Some n ≡ section_of line → section_takes n f ≡ true → with_line line f ≡ on_section line f
+by_section End f n is takes = absurd cc
+by_section line f n is takes =
+    sym (ap (λ b. if b then with_line line f else None) takes) ∙ ap (option_and_then (λ m. if section_takes m f then with_line line f else None)) is
+
+pub returns-then-takes : goal.returns-then-takes
+returns-then-takes c =
+    if_ok c.with_line.result _ _ (by_section c.args.line.now c.args.document c.in-Some.section c.in-Some.ensures.value (sym c.takes.ensures ∙ c.if-takes.true)) c.with_line.ensures

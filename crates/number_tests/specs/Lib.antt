@@ -1,0 +1,2 @@
+pub mod SignAction
+pub mod SignActionLaws
