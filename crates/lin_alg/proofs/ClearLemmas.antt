@@ -45,15 +45,15 @@ module _ {A : Type 0} (f : ExactField) (value : A → Value f) (p : ℕ) (u : �
   cleared-append [] ss = refl
   cleared-append (r ∷ rs) ss = ap (λ z. (r.0, less f.laws r.1 (r.1 p) u) ∷ z) (cleared-append rs ss)
 
-  pub wide_clear-at : (rs : List (ℕ × List A)) (i : ℕ) (x : ℕ × List A) → i < length rs → x ≡ get_or rs i x → f.laws.is_nought (vector f value x.1 p) ≡ false →
-      IsWideLess f (vector f value x.1) (vector f value x.1 p) u → IsWideClear f p u (exact_rows f value rs)
+  pub wide_clear-at : (rs : List (ℕ × List A)) (i : ℕ) (x : ℕ × List A) → i < length rs → x ≡ get_or rs i x → f.laws.is_nought (vector f.laws value x.1 p) ≡ false →
+      IsWideLess f (vector f.laws value x.1) (vector f.laws value x.1 p) u → IsWideClear f p u (exact_rows f.laws value rs)
   wide_clear-at [] i x l e z h = absurd (omega arith)
   wide_clear-at (r ∷ rs) zero x l e z h =
-      inl (subst (λ (y : ℕ × List A). (f.laws.is_nought (vector f value y.1 p) ≡ false) × IsWideLess f (vector f value y.1) (vector f value y.1 p) u) e (z, h))
+      inl (subst (λ (y : ℕ × List A). (f.laws.is_nought (vector f.laws value y.1 p) ≡ false) × IsWideLess f (vector f.laws value y.1) (vector f.laws value y.1 p) u) e (z, h))
   wide_clear-at (r ∷ rs) (suc i) x l e z h = inr (wide_clear-at rs i x (omega arith) e z h)
 
   pub record IsClearing (w : ℕ) (start now : List (ℕ × List A)) (i : ℕ) : Type 0 where
-    pub done : exact_rows f value (take i now) ≡ cleared f.laws p u (exact_rows f value (take i start))
+    pub done : exact_rows f.laws value (take i now) ≡ cleared f.laws p u (exact_rows f.laws value (take i start))
     pub ahead : drop i now ≡ drop i start
     pub shape : HaveWidth w now
 
@@ -65,42 +65,42 @@ module _ {A : Type 0} (f : ExactField) (value : A → Value f) (p : ℕ) (u : �
   clearing-at w start now i x e t = e ∙ sym (at-drop now i x) ∙ ap (λ z. get_or z 0 x) t.ahead ∙ at-drop start i x
 
   pub clearing-step : (w : ℕ) (start now : List (ℕ × List A)) (i : ℕ) (x y : ℕ × List A) → i < length now → length now ≡ length start → x ≡ get_or now i x →
-      y.0 ≡ x.0 → length y.1 ≡ w → y.0 < w → vector f value y.1 ≡ less f.laws (vector f value x.1) (vector f value x.1 p) u →
+      y.0 ≡ x.0 → length y.1 ≡ w → y.0 < w → vector f.laws value y.1 ≡ less f.laws (vector f.laws value x.1) (vector f.laws value x.1 p) u →
       IsClearing w start now i → IsClearing w start (set now i y) (i + 1)
   clearing-step w start now i x y l ll e s n b h t =
       let ls : i < length start = omega arith in
       let es = clearing-at w start now i x e t in
       record {
         done =
-            ap (exact_rows f value) (take_more_set now i y l) ∙ exact_rows-append f value (take i now) (y ∷ [])
+            ap (exact_rows f.laws value) (take_more_set now i y l) ∙ exact_rows-append f value (take i now) (y ∷ [])
             ∙ (λ j. t.done j ++ (s j, h j) ∷ [])
-            ∙ sym (ap (λ z. cleared f.laws p u (exact_rows f value z)) (take-item start i x ls es)
+            ∙ sym (ap (λ z. cleared f.laws p u (exact_rows f.laws value z)) (take-item start i x ls es)
             ∙ ap (cleared f.laws p u) (exact_rows-append f value (take i start) (x ∷ []))
-            ∙ cleared-append (exact_rows f value (take i start)) (exact_rows f value (x ∷ [])));
+            ∙ cleared-append (exact_rows f.laws value (take i start)) (exact_rows f.laws value (x ∷ [])));
         ahead = rw (add-one) (drop-set_at now i y ∙ drop-next now start i t.ahead);
         shape = wide-set w now i y t.shape b n;
       }
 
   pub clearing-kept : (w : ℕ) (start now : List (ℕ × List A)) (i : ℕ) (x : ℕ × List A) → i < length now → length now ≡ length start → x ≡ get_or now i x →
-      f.laws.is_nought (vector f value x.1 p) ≡ true → IsClearing w start now i → IsClearing w start now (i + 1)
+      f.laws.is_nought (vector f.laws value x.1 p) ≡ true → IsClearing w start now i → IsClearing w start now (i + 1)
   clearing-kept w start now i x l ll e z t =
       let ls : i < length start = omega arith in
       let es = clearing-at w start now i x e t in
-      let same : less f.laws (vector f value x.1) (vector f value x.1 p) u ≡ vector f value x.1 =
-      funext (λ j. ap (λ c. f.laws.plus (vector f value x.1 j) (f.laws.neg (f.laws.times c (u j)))) (f.laws.is_nought-true (vector f value x.1 p) z) ∙ less-nought f.laws (vector f value x.1 j) (u j)) in
+      let same : less f.laws (vector f.laws value x.1) (vector f.laws value x.1 p) u ≡ vector f.laws value x.1 =
+      funext (λ j. ap (λ c. f.laws.plus (vector f.laws value x.1 j) (f.laws.neg (f.laws.times c (u j)))) (f.laws.is_nought-true (vector f.laws value x.1 p) z) ∙ less-nought f.laws (vector f.laws value x.1 j) (u j)) in
       record {
         done =
-            ap (exact_rows f value) (take-item now i x l e) ∙ exact_rows-append f value (take i now) (x ∷ [])
+            ap (exact_rows f.laws value) (take-item now i x l e) ∙ exact_rows-append f value (take i now) (x ∷ [])
             ∙ (λ j. t.done j ++ (x.0, sym same j) ∷ [])
-            ∙ sym (ap (λ z. cleared f.laws p u (exact_rows f value z)) (take-item start i x ls es)
+            ∙ sym (ap (λ z. cleared f.laws p u (exact_rows f.laws value z)) (take-item start i x ls es)
             ∙ ap (cleared f.laws p u) (exact_rows-append f value (take i start) (x ∷ []))
-            ∙ cleared-append (exact_rows f value (take i start)) (exact_rows f value (x ∷ [])));
+            ∙ cleared-append (exact_rows f.laws value (take i start)) (exact_rows f.laws value (x ∷ [])));
         ahead = rw (add-one) (drop-next now start i t.ahead);
         shape = t.shape;
       }
 
   pub clearing-all : (w : ℕ) (start now : List (ℕ × List A)) (i : ℕ) → length now ≤ i → length now ≡ length start → IsClearing w start now i →
-      exact_rows f value now ≡ cleared f.laws p u (exact_rows f value start)
+      exact_rows f.laws value now ≡ cleared f.laws p u (exact_rows f.laws value start)
   clearing-all w start now i l ll t =
       let ls : length start ≤ i = omega arith in
-      sym (ap (exact_rows f value) (take_all i now l)) ∙ t.done ∙ ap (λ z. cleared f.laws p u (exact_rows f value z)) (take_all i start ls)
+      sym (ap (exact_rows f.laws value) (take_all i now l)) ∙ t.done ∙ ap (λ z. cleared f.laws p u (exact_rows f.laws value z)) (take_all i start ls)

@@ -31,21 +31,21 @@ not-pivot c (r ∷ rs) (suc i) x l e h s = not-pivot c rs i x (omega arith) e (t
   tail false b h = h
 
 module _ {A : Type 0} (f : ExactField) (value : A → Value f) where
-  pub reduced-drop : (i : ℕ) (all : List (ℕ × List A)) → IsReduced f.laws (exact_rows f value all) → IsReduced f.laws (exact_rows f value (drop i all))
+  pub reduced-drop : (i : ℕ) (all : List (ℕ × List A)) → IsReduced f.laws (exact_rows f.laws value all) → IsReduced f.laws (exact_rows f.laws value (drop i all))
   reduced-drop zero all r = r
   reduced-drop (suc i) [] r = r
   reduced-drop (suc i) (x ∷ all) r = reduced-drop i all r.2
 
   -- one more pivot, from the last row to the first
   pub free-step : (all : List (ℕ × List A)) (i : ℕ) (x : ℕ × List A) (c : ℕ) (old new : ℕ → Value f) → i < length all → x ≡ get_or all i x →
-      IsReduced f.laws (exact_rows f value all) → is_pivot c all ≡ false → ((j : ℕ) → old j ≡ free_vector f.laws (exact_rows f value (drop (i + 1) all)) c j) →
-      ((j : ℕ) → new j ≡ (if nat_eq j x.0 then f.laws.neg (vector f value x.1 c) else old j)) →
-      (j : ℕ) → new j ≡ free_vector f.laws (exact_rows f value (drop i all)) c j
+      IsReduced f.laws (exact_rows f.laws value all) → is_pivot c all ≡ false → ((j : ℕ) → old j ≡ free_vector f.laws (exact_rows f.laws value (drop (i + 1) all)) c j) →
+      ((j : ℕ) → new j ≡ (if nat_eq j x.0 then f.laws.neg (vector f.laws value x.1 c) else old j)) →
+      (j : ℕ) → new j ≡ free_vector f.laws (exact_rows f.laws value (drop i all)) c j
   free-step all i x c old new l e r free o n j =
       let d = drop-item all i x l e in
-      let red : IsReduced f.laws (exact_rows f value (x ∷ drop (i + 1) all)) = subst (λ (z : List (ℕ × List A)). IsReduced f.laws (exact_rows f value z)) d (reduced-drop i all r) in
-      let rest : List (ℕ × (ℕ → Value f)) = exact_rows f value (drop (i + 1) all) in
-      let b : Value f = vector f value x.1 c in
+      let red : IsReduced f.laws (exact_rows f.laws value (x ∷ drop (i + 1) all)) = subst (λ (z : List (ℕ × List A)). IsReduced f.laws (exact_rows f.laws value z)) d (reduced-drop i all r) in
+      let rest : List (ℕ × (ℕ → Value f)) = exact_rows f.laws value (drop (i + 1) all) in
+      let b : Value f = vector f.laws value x.1 c in
       let apart : x.0 ≡ c → ⊥ = not-pivot c all i x l e free in
       n j
       ∙ elim (eqb_tells j x.0) [
@@ -59,7 +59,7 @@ module _ {A : Type 0} (f : ExactField) (value : A → Value f) where
             ∙ sym (ap (λ t. f.laws.plus (free_vector f.laws rest c j) (f.laws.neg (f.laws.times b (if t then f.laws.unit else f.laws.nought)))) h.0
             ∙ less-at-nought f.laws (free_vector f.laws rest c j) b)
       ]
-      ∙ ap (λ z. free_vector f.laws (exact_rows f value z) c j) (sym d)
+      ∙ ap (λ z. free_vector f.laws (exact_rows f.laws value z) c j) (sym d)
 
 pub with_entry-row : {K : Type 0} (i p : ℕ) (y : K) (m : ℕ → ℕ → K) (j : ℕ) → with_entry i p y m i j ≡ (if nat_eq j p then y else m i j)
 with_entry-row i p y m j = ap (λ b. if b && nat_eq j p then y else m i j) (eq-self i)

@@ -10,3 +10,5 @@ mod MatrixLemmas
 mod SolvingLemmas
 mod FreeLemmas
 mod HashLemmas
+mod SquareLemmas
+mod CompareLemmas

@@ -59,13 +59,13 @@ pick k i l j =
     ]
 
 module _ {A : Type 0} (f : ExactField) (value : A → Value f) where
-  pub entry-inside : (m : MatrixView A) (i j : ℕ) → j < m.cols → entry f value m i j ≡ vector f value m.entries (i * m.cols + j)
-  entry-inside m i j l = ap (λ b. if b then vector f value m.entries (i * m.cols + j) else f.laws.nought) (lt-ltb j m.cols l)
+  pub entry-inside : (m : MatrixView A) (i j : ℕ) → j < m.cols → entry f.laws value m i j ≡ vector f.laws value m.entries (i * m.cols + j)
+  entry-inside m i j l = ap (λ b. if b then vector f.laws value m.entries (i * m.cols + j) else f.laws.nought) (lt-ltb j m.cols l)
 
-  pub entry-right : (m : MatrixView A) (i j : ℕ) → m.cols ≤ j → entry f value m i j ≡ f.laws.nought
-  entry-right m i j l = ap (λ b. if b then vector f value m.entries (i * m.cols + j) else f.laws.nought) (le-ltb j m.cols l)
+  pub entry-right : (m : MatrixView A) (i j : ℕ) → m.cols ≤ j → entry f.laws value m i j ≡ f.laws.nought
+  entry-right m i j l = ap (λ b. if b then vector f.laws value m.entries (i * m.cols + j) else f.laws.nought) (le-ltb j m.cols l)
 
-  pub entry-under : (m : MatrixView A) (i j : ℕ) → length m.entries ≡ m.rows * m.cols → m.rows ≤ i → entry f value m i j ≡ f.laws.nought
+  pub entry-under : (m : MatrixView A) (i j : ℕ) → length m.entries ≡ m.rows * m.cols → m.rows ≤ i → entry f.laws value m i j ≡ f.laws.nought
   entry-under m i j e l =
       elim (dec j m.cols) [
         | inl k ↦
@@ -76,28 +76,28 @@ module _ {A : Type 0} (f : ExactField) (value : A → Value f) where
 
   -- writing one place of the list writes one entry
   pub entry-set : (m : MatrixView A) (i j : ℕ) (x : A) → i < m.rows → j < m.cols → length m.entries ≡ m.rows * m.cols → (k l : ℕ) →
-      entry f value (record { rows = m.rows; cols = m.cols; entries = set m.entries (i * m.cols + j) x }) k l ≡ with_entry i j (value x) (entry f value m) k l
+      entry f.laws value (record { rows = m.rows; cols = m.cols; entries = set m.entries (i * m.cols + j) x }) k l ≡ with_entry i j (value x) (entry f.laws value m) k l
   entry-set m i j x lr lc e k l =
       let new : MatrixView A = record { rows = m.rows; cols = m.cols; entries = set m.entries (i * m.cols + j) x } in
       let place : i * m.cols + j < m.rows * m.cols = place-below m.rows i m.cols j lr lc in
       let below : i * m.cols + j < length m.entries = omega arith in
       elim (pick k i l j) [
         | inl h ↦
-            (λ z. entry f value new (h.0 z) (h.1 z)) ∙ entry-inside new i j lc ∙ vector-set_same f value m.entries (i * m.cols + j) x below
-            ∙ sym (ap (λ b. if b then value x else entry f value m k l) h.2)
+            (λ z. entry f.laws value new (h.0 z) (h.1 z)) ∙ entry-inside new i j lc ∙ vector-set_same f value m.entries (i * m.cols + j) x below
+            ∙ sym (ap (λ b. if b then value x else entry f.laws value m k l) h.2)
         | inr h ↦ elim (dec l m.cols) [
           | inl b ↦
               entry-inside new k l b
               ∙ vector-set_other f value m.entries (i * m.cols + j) (k * m.cols + l) x (λ q. let both = place-apart m.cols i j k l lc b q in h.0 both.0 both.1)
-              ∙ sym (entry-inside m k l b) ∙ sym (ap (λ b. if b then value x else entry f value m k l) h.1)
-          | inr p ↦ entry-right new k l p ∙ sym (entry-right m k l p) ∙ sym (ap (λ b. if b then value x else entry f value m k l) h.1)
+              ∙ sym (entry-inside m k l b) ∙ sym (ap (λ b. if b then value x else entry f.laws value m k l) h.1)
+          | inr p ↦ entry-right new k l p ∙ sym (entry-right m k l p) ∙ sym (ap (λ b. if b then value x else entry f.laws value m k l) h.1)
         ]
       ]
 
   -- an entry, where the list holds the entries of a product row by row
-  pub entry-filled : (n m : ℕ) (xs : List A) (t : ℕ → ℕ → Value f) → length xs ≡ n * m → ((p : ℕ) → p < length xs → vector f value xs p ≡ t (p / m) (p % m)) →
+  pub entry-filled : (n m : ℕ) (xs : List A) (t : ℕ → ℕ → Value f) → length xs ≡ n * m → ((p : ℕ) → p < length xs → vector f.laws value xs p ≡ t (p / m) (p % m)) →
       ((i j : ℕ) → n ≤ i → t i j ≡ f.laws.nought) → ((i j : ℕ) → m ≤ j → t i j ≡ f.laws.nought) →
-      (i j : ℕ) → entry f value (record { rows = n; cols = m; entries = xs }) i j ≡ t i j
+      (i j : ℕ) → entry f.laws value (record { rows = n; cols = m; entries = xs }) i j ≡ t i j
   entry-filled n m xs t e h under right i j =
       let all : MatrixView A = record { rows = n; cols = m; entries = xs } in
       elim (dec j m) [
@@ -111,8 +111,8 @@ module _ {A : Type 0} (f : ExactField) (value : A → Value f) where
         ]
       ]
 
-  pub mul-under : (d : ℕ) (a b : MatrixView A) → length a.entries ≡ a.rows * a.cols → (i j : ℕ) → a.rows ≤ i → mul f.laws d (entry f value a) (entry f value b) i j ≡ f.laws.nought
-  mul-under d a b e i j l = total-same f.laws d _ (λ _. f.laws.nought) (λ k h. ap (λ x. f.laws.times x (entry f value b k j)) (entry-under a i k e l) ∙ nought-times f.laws (entry f value b k j)) ∙ total-nought f.laws d
+  pub mul-under : (d : ℕ) (a b : MatrixView A) → length a.entries ≡ a.rows * a.cols → (i j : ℕ) → a.rows ≤ i → mul f.laws d (entry f.laws value a) (entry f.laws value b) i j ≡ f.laws.nought
+  mul-under d a b e i j l = total-same f.laws d _ (λ _. f.laws.nought) (λ k h. ap (λ x. f.laws.times x (entry f.laws value b k j)) (entry-under a i k e l) ∙ nought-times f.laws (entry f.laws value b k j)) ∙ total-nought f.laws d
 
-  pub mul-right : (d : ℕ) (a b : MatrixView A) (i j : ℕ) → b.cols ≤ j → mul f.laws d (entry f value a) (entry f value b) i j ≡ f.laws.nought
-  mul-right d a b i j l = total-same f.laws d _ (λ _. f.laws.nought) (λ k h. ap (f.laws.times (entry f value a i k)) (entry-right b k j l) ∙ times-nought f.laws (entry f value a i k)) ∙ total-nought f.laws d
+  pub mul-right : (d : ℕ) (a b : MatrixView A) (i j : ℕ) → b.cols ≤ j → mul f.laws d (entry f.laws value a) (entry f.laws value b) i j ≡ f.laws.nought
+  mul-right d a b i j l = total-same f.laws d _ (λ _. f.laws.nought) (λ k h. ap (f.laws.times (entry f.laws value a i k)) (entry-right b k j l) ∙ times-nought f.laws (entry f.laws value a i k)) ∙ total-nought f.laws d

@@ -3,7 +3,7 @@ use Rattle.lin_alg.proofs.PlaceLemmas.{take-item}
 use Rattle.cyclo24.specs.ExactField.{ExactField, Value}
 use Rattle.lin_alg.specs.Rows.{vector, HaveLength}
 
-pub vector-zeros : {A : Type 0} (f : ExactField) (value : A → Value f) (n : ℕ) (z : A) → value z ≡ f.laws.nought → (j : ℕ) → vector f value (replicate n z) j ≡ f.laws.nought
+pub vector-zeros : {A : Type 0} (f : ExactField) (value : A → Value f) (n : ℕ) (z : A) → value z ≡ f.laws.nought → (j : ℕ) → vector f.laws value (replicate n z) j ≡ f.laws.nought
 vector-zeros f value zero z e j = refl
 vector-zeros f value (suc n) z e zero = e
 vector-zeros f value (suc n) z e (suc j) = vector-zeros f value n z e j
@@ -19,8 +19,8 @@ filled xs row n m z r e h = h ∙ (λ i. take n (r i) ++ replicate (n - e i) z) 
   none (suc k) = let d : n - 0 ≡ n = omega arith in ap (λ k. replicate k z) d
 
 pub vector-filled : {A : Type 0} (f : ExactField) (value : A → Value f) (xs row : List A) (n m : ℕ) (z : A) → row ≡ [] → m ≡ 0 → xs ≡ take n row ++ replicate (n - m) z →
-    value z ≡ f.laws.nought → (j : ℕ) → vector f value xs j ≡ f.laws.nought
-vector-filled f value xs row n m z r e h v j = ap (λ ys. vector f value ys j) (filled xs row n m z r e h) ∙ vector-zeros f value n z v j
+    value z ≡ f.laws.nought → (j : ℕ) → vector f.laws value xs j ≡ f.laws.nought
+vector-filled f value xs row n m z r e h v j = ap (λ ys. vector f.laws value ys j) (filled xs row n m z r e h) ∙ vector-zeros f value n z v j
 
 map-last : {X Y : Type 0} (h : X → Y) (xs : List X) (x : X) → map h (xs ++ x ∷ []) ≡ map h xs ++ h x ∷ []
 map-last h [] x = refl

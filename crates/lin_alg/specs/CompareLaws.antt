@@ -14,7 +14,7 @@ both-true true b h = (refl, h)
 both-true false b h = let t : false ≡ true = h in absurd cc
 
 module _ {A : Type 0} (f : ExactField) (value : A → Value f) (E : A → A → Bool) (tells : (x y : A) → (E x y ≡ true) ↔ (value x ≡ value y)) where
-  row-equal : (xs ys : List A) → length xs ≡ length ys → ((j : ℕ) → vector f value xs j ≡ vector f value ys j) → pointwise E xs ys ≡ true
+  row-equal : (xs ys : List A) → length xs ≡ length ys → ((j : ℕ) → vector f.laws value xs j ≡ vector f.laws value ys j) → pointwise E xs ys ≡ true
   row-equal [] [] l h = refl
   row-equal [] (y ∷ ys) l h = absurd (omega arith)
   row-equal (x ∷ xs) [] l h = absurd (omega arith)
@@ -44,13 +44,13 @@ module _ {A : Type 0} (f : ExactField) (value : A → Value f) (E : A → A → 
   is_none (x ∷ xs) = false
 
   -- rows of one width with the same exact rows are equal by their entries
-  pub lines-equal : (w : ℕ) (rs ss : List (ℕ × List A)) → HaveWidth w rs → HaveWidth w ss → exact_rows f value rs ≡ exact_rows f value ss → lines_eq E rs ss ≡ true
+  pub lines-equal : (w : ℕ) (rs ss : List (ℕ × List A)) → HaveWidth w rs → HaveWidth w ss → exact_rows f.laws value rs ≡ exact_rows f.laws value ss → lines_eq E rs ss ≡ true
   lines-equal w [] [] a b e = refl
   lines-equal w [] (s ∷ ss) a b e = let t : true ≡ false = ap is_none e in absurd cc
   lines-equal w (r ∷ rs) [] a b e = let t : false ≡ true = ap is_none e in absurd cc
   lines-equal w (r ∷ rs) (s ∷ ss) a b e =
-      let head : vector f value r.1 ≡ vector f value s.1 = ap (first_of_rows (vector f value r.1)) e in
-      let tail : exact_rows f value rs ≡ exact_rows f value ss = ap rest_of_rows e in
+      let head : vector f.laws value r.1 ≡ vector f.laws value s.1 = ap (first_of_rows (vector f.laws value r.1)) e in
+      let tail : exact_rows f.laws value rs ≡ exact_rows f.laws value ss = ap rest_of_rows e in
       let one : pointwise E r.1 s.1 ≡ true = row-equal r.1 s.1 (a.1 ∙ sym b.1) (λ j. ap (λ v. v j) head) in
       let more : lines_eq E rs ss ≡ true = lines-equal w rs ss a.2 b.2 tail in
       λ i. one i && more i
@@ -65,14 +65,14 @@ module _ {A : Type 0} (f : ExactField) (value : A → Value f) (E : A → A → 
       ]
 
   -- reduced rows that are equal by their entries have the same exact rows
-  pub equal-lines : (rs ss : List (ℕ × List A)) → IsReduced f.laws (exact_rows f value rs) → IsReduced f.laws (exact_rows f value ss) → lines_eq E rs ss ≡ true → exact_rows f value rs ≡ exact_rows f value ss
+  pub equal-lines : (rs ss : List (ℕ × List A)) → IsReduced f.laws (exact_rows f.laws value rs) → IsReduced f.laws (exact_rows f.laws value ss) → lines_eq E rs ss ≡ true → exact_rows f.laws value rs ≡ exact_rows f.laws value ss
   equal-lines [] [] a b h = refl
   equal-lines [] (s ∷ ss) a b h = let t : false ≡ true = h in absurd cc
   equal-lines (r ∷ rs) [] a b h = let t : false ≡ true = h in absurd cc
   equal-lines (r ∷ rs) (s ∷ ss) a b h =
       let both = both-true (pointwise E r.1 s.1) (lines_eq E rs ss) h in
-      let row : vector f value r.1 ≡ vector f value s.1 = λ i. λ j. get_or (equal-row r.1 s.1 both.0 i) j f.laws.nought in
-      let ends : EndsAt f.laws r.0 (vector f value s.1) = subst (EndsAt f.laws r.0) row a.0 in
-      let pivot : r.0 ≡ s.0 = one-pivot r.0 s.0 (vector f value s.1) ends b.0 in
-      let rest : exact_rows f value rs ≡ exact_rows f value ss = equal-lines rs ss a.2 b.2 both.1 in
+      let row : vector f.laws value r.1 ≡ vector f.laws value s.1 = λ i. λ j. get_or (equal-row r.1 s.1 both.0 i) j f.laws.nought in
+      let ends : EndsAt f.laws r.0 (vector f.laws value s.1) = subst (EndsAt f.laws r.0) row a.0 in
+      let pivot : r.0 ≡ s.0 = one-pivot r.0 s.0 (vector f.laws value s.1) ends b.0 in
+      let rest : exact_rows f.laws value rs ≡ exact_rows f.laws value ss = equal-lines rs ss a.2 b.2 both.1 in
       λ i. (pivot i, row i) ∷ rest i

@@ -5,8 +5,8 @@
 -- IsSpanned f value e v: v is in the span of the rows
 -- IsSolution f value e v: each of the rows is 0 at v
 use Rattle.std.specs.Prelude.{◌≡◌, ℕ, Bool, true, List}
-use Rattle.cyclo24.specs.ExactField.{ExactField, Value}
-use Rattle.lin_alg.specs.Spans.{IsInSpan}
+use Rattle.cyclo24.specs.FieldOn.{FieldOn}
+use Rattle.lin_alg.specs.Spans.{row_vectors, IsInSpan}
 use Rattle.lin_alg.specs.Reduced.{IsForm}
 use Rattle.lin_alg.specs.Rows.{exact_rows, HaveWidth}
 use Rattle.lin_alg.specs.Equations.{Vanishes}
@@ -19,14 +19,14 @@ pub record EchelonView (A : Type 0) : Type 0 where
   pub spare : ℕ
 
 -- each row is as wide as the form, and the rows of a whole form are a reduced form
-pub record IsEchelon {A : Type 0} (f : ExactField) (value : A → Value f) (e : EchelonView A) : Type 0 where
+pub record IsEchelon {A K : Type 0} (f : FieldOn K) (value : A → K) (e : EchelonView A) : Type 0 where
   pub shape : HaveWidth e.width e.rows
-  pub form : e.whole ≡ true → IsForm f.laws e.width (exact_rows f value e.rows)
+  pub form : e.whole ≡ true → IsForm f e.width (exact_rows f value e.rows)
 
 -- v is in the span of the rows
-abbrev pub IsSpanned : {A : Type 0} (f : ExactField) → (A → Value f) → EchelonView A → (ℕ → Value f) → Type 0
-IsSpanned f value e v = IsInSpan f.laws (exact_rows f value e.rows) v
+abbrev pub IsSpanned : {A K : Type 0} → FieldOn K → (A → K) → EchelonView A → (ℕ → K) → Type 0
+IsSpanned f value e v = IsInSpan f (row_vectors (exact_rows f value e.rows)) v
 
 -- each of the rows is 0 at v
-abbrev pub IsSolution : {A : Type 0} (f : ExactField) → (A → Value f) → EchelonView A → (ℕ → Value f) → Type 0
-IsSolution f value e v = Vanishes f.laws e.width (exact_rows f value e.rows) v
+abbrev pub IsSolution : {A K : Type 0} → FieldOn K → (A → K) → EchelonView A → (ℕ → K) → Type 0
+IsSolution f value e v = Vanishes f e.width (row_vectors (exact_rows f value e.rows)) v

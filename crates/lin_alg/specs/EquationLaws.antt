@@ -7,7 +7,7 @@
 use Rattle.std.proofs.Common.{◌≡◌, ℕ, suc, zero, ◌<◌, ◌≤◌, ◌⊎◌, inl, inr, true, false, refl, sym, ◌∙◌, ap, subst, List, [], ◌∷◌, arith, nat_eq, if◌then◌else◌}
 use Rattle.std.proofs.lemmas.Bool.Decides.{eqb_tells}
 use Rattle.cyclo24.specs.FieldOn.{FieldOn}
-use Rattle.lin_alg.specs.Spans.{less, IsInSpan, IsSubspace, HasRows}
+use Rattle.lin_alg.specs.Spans.{row_vectors, less, IsInSpan, IsSubspace, HasRows}
 use Rattle.lin_alg.specs.Reduced.{reduce, EndsAt, ArePast, IsReduced, IsClear}
 use Rattle.cyclo24.specs.FieldLaws.{nought-plus, times-nought, nought-times, less-at-nought, less-own, plus-times, times-neg}
 use Rattle.lin_alg.specs.InsertLaws.{reduce-has, reduce-clear, member-reduce}
@@ -70,7 +70,7 @@ module _ {K : Type 0} (f : FieldOn K) where
   ends-clear p b (r ∷ rs) e a = (e.1 r.0 a.0, ends-clear p b rs e a.2)
 
   still : (w : ℕ) (p : ℕ) (c : K) (u : ℕ → K) (all : List (ℕ × (ℕ → K))) → p < w → ArePast f p all →
-      HasRows (λ x. dot f w x u ≡ f.nought) all → HasRows (λ x. dot f w x (less f u c (unit_vector f p)) ≡ f.nought) all
+      HasRows (λ x. dot f w x u ≡ f.nought) (row_vectors all) → HasRows (λ x. dot f w x (less f u c (unit_vector f p)) ≡ f.nought) (row_vectors all)
   still w p c u [] l a h = tt
   still w p c u (r ∷ rs) l a h = (
     dot-less w r.1 u c (unit_vector f p) ∙ (λ i. f.plus (h.0 i) (f.neg (f.times c ((dot-unit w r.1 p l ∙ a.1) i)))) ∙ less-at-nought f f.nought c,
@@ -78,7 +78,7 @@ module _ {K : Type 0} (f : FieldOn K) where
   )
 
   -- each row of a reduced form vanishes on each free vector
-  pub free-vanishes : (w : ℕ) (rs : List (ℕ × (ℕ → K))) (j : ℕ) → j < w → PivotsBelow w rs → IsReduced f rs → HasRows (λ x. dot f w x (free_vector f rs j) ≡ f.nought) rs
+  pub free-vanishes : (w : ℕ) (rs : List (ℕ × (ℕ → K))) (j : ℕ) → j < w → PivotsBelow w rs → IsReduced f rs → HasRows (λ x. dot f w x (free_vector f rs j) ≡ f.nought) (row_vectors rs)
   free-vanishes w [] j l b r = tt
   free-vanishes w (s ∷ rs) j l b r = (
     dot-less w s.1 (free_vector f rs j) (s.1 j) (unit_vector f s.0)
@@ -102,13 +102,13 @@ module _ {K : Type 0} (f : FieldOn K) where
   }
 
   -- a row that vanishes wherever the rows of the form do is in their span
-  pub vanishing-span : (w : ℕ) (rs : List (ℕ × (ℕ → K))) (x : ℕ → K) → PivotsBelow w rs → IsReduced f rs → HasRows (IsWithin f w) rs → IsWithin f w x →
-      ((v : ℕ → K) → HasRows (λ y. dot f w y v ≡ f.nought) rs → dot f w x v ≡ f.nought) → IsInSpan f rs x
+  pub vanishing-span : (w : ℕ) (rs : List (ℕ × (ℕ → K))) (x : ℕ → K) → PivotsBelow w rs → IsReduced f rs → HasRows (IsWithin f w) (row_vectors rs) → IsWithin f w x →
+      ((v : ℕ → K) → HasRows (λ y. dot f w y v ≡ f.nought) (row_vectors rs) → dot f w x v ≡ f.nought) → IsInSpan f (row_vectors rs) x
   vanishing-span w rs x b r inside x_in h =
       member-reduce f rs x (λ j. elim (dec j w) [
         | inl l ↦
             let v = free_vector f rs j in
-            let rows : HasRows (λ y. dot f w y v ≡ f.nought) rs = free-vanishes w rs j l b r in
+            let rows : HasRows (λ y. dot f w y v ≡ f.nought) (row_vectors rs) = free-vanishes w rs j l b r in
             sym (dot-clear w rs (reduce f rs x) j l b (reduce-clear f rs x r))
             ∙ reduce-has f (λ y. dot f w y v ≡ f.nought) (vanish-subspace w v) rs rows x (h v rows)
         | inr l ↦ reduce-has f (IsWithin f w) (within-subspace w) rs inside x x_in j l

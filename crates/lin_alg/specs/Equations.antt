@@ -7,7 +7,7 @@
 use Rattle.std.specs.Prelude.{◌≡◌, ◌↔◌, ℕ, List, [], ◌∷◌, nat_eq, if◌then◌else◌}
 use Rattle.cyclo24.specs.FieldOn.{FieldOn}
 use Rattle.cyclo24.specs.Sums.{total}
-use Rattle.lin_alg.specs.Spans.{less, IsInSpan, HasRows}
+use Rattle.lin_alg.specs.Spans.{row_vectors, less, IsInSpan, HasRows}
 use Rattle.lin_alg.specs.Reduced.{IsForm, IsWithin}
 
 -- the value of a row of w entries at a vector
@@ -15,13 +15,13 @@ abbrev pub dot : {K : Type 0} → FieldOn K → ℕ → (ℕ → K) → (ℕ →
 dot f w x v = total f w (λ k. f.times (x k) (v k))
 
 -- each of the rows is 0 at v
-abbrev pub Vanishes : {K : Type 0} → FieldOn K → ℕ → List (ℕ × (ℕ → K)) → (ℕ → K) → Type 0
+abbrev pub Vanishes : {K : Type 0} → FieldOn K → ℕ → List (ℕ → K) → (ℕ → K) → Type 0
 Vanishes f w rs v = HasRows (λ x. dot f w x v ≡ f.nought) rs
 
 -- the reduced form whose span is all rows of w entries that are 0 on all of U
 pub record IsEquationsOf {K : Type 0} (f : FieldOn K) (w : ℕ) (U : (ℕ → K) → Type 0) (rs : List (ℕ × (ℕ → K))) : Type 0 where
   pub form : IsForm f w rs
-  pub spans : (x : ℕ → K) → IsInSpan f rs x ↔ (IsWithin f w x × ((v : ℕ → K) → U v → dot f w x v ≡ f.nought))
+  pub spans : (x : ℕ → K) → IsInSpan f (row_vectors rs) x ↔ (IsWithin f w x × ((v : ℕ → K) → U v → dot f w x v ≡ f.nought))
 
 -- 1 at p and 0 elsewhere
 abbrev pub unit_vector : {K : Type 0} → FieldOn K → ℕ → ℕ → K

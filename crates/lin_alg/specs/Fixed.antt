@@ -5,8 +5,9 @@
 -- Fix f act h: the vectors that each element of h fixes
 -- mover f act q i: row i of A(q) - 1; movers: the first rows
 -- IsFixForm f act h rows: the rows are the equations of Fix(h)
-use Rattle.std.specs.Prelude.{◌≡◌, ℕ, suc, zero, List, [], ◌∷◌, ◌⊎◌, if◌then◌else◌, ltb}
-use Rattle.cyclo24.specs.ExactField.{ExactField, Value}
+use Rattle.std.specs.Prelude.{◌≡◌, ℕ, suc, zero, ℤ, Bool, List, [], ◌∷◌, ◌⊎◌, if◌then◌else◌, ltb}
+use Rattle.cyclo24.specs.FieldOn.{FieldOn}
+use Rattle.cyclo24.specs.ExactField.{Exact}
 use Rattle.lin_alg.specs.Matrices.{unit_entry}
 use Rattle.lin_alg.specs.Action.{Action, IsFixed, entry_of}
 use Rattle.lin_alg.specs.Equations.{IsEquationsOf}
@@ -27,18 +28,18 @@ module _ {E V : Type 0} (R : E → V → Type 0) where
   FixesAll U q = (v : V) → U v → R q v
 
 -- Fix(h)
-abbrev pub Fix : (f : ExactField) → Action → List ℕ → (ℕ → Value f) → Type 0
+abbrev pub Fix : {valid : List ℤ → Bool} → FieldOn (Exact valid) → Action → List ℕ → (ℕ → Exact valid) → Type 0
 Fix f act = IsFixedByAll (IsFixed f act)
 
 -- row i of A(q) - 1, 0 past the dimension
-abbrev pub mover : (f : ExactField) → Action → ℕ → ℕ → ℕ → Value f
-mover f act q i j = if ltb j act.dim then f.laws.plus (entry_of f act q i j) (f.laws.neg (unit_entry f.laws i j)) else f.laws.nought
+abbrev pub mover : {valid : List ℤ → Bool} → FieldOn (Exact valid) → Action → ℕ → ℕ → ℕ → Exact valid
+mover f act q i j = if ltb j act.dim then f.plus (entry_of f act q i j) (f.neg (unit_entry f i j)) else f.nought
 
 -- the first n rows of A(q) - 1
-abbrev pub movers : (f : ExactField) → Action → ℕ → ℕ → List (ℕ × (ℕ → Value f))
+abbrev pub movers : {valid : List ℤ → Bool} → FieldOn (Exact valid) → Action → ℕ → ℕ → List (ℕ → Exact valid)
 movers f act q zero = []
-movers f act q (suc n) = (0, mover f act q n) ∷ movers f act q n
+movers f act q (suc n) = mover f act q n ∷ movers f act q n
 
 -- the equations of Fix(h)
-abbrev pub IsFixForm : (f : ExactField) → Action → List ℕ → List (ℕ × (ℕ → Value f)) → Type 0
-IsFixForm f act h rs = IsEquationsOf f.laws act.dim (Fix f act h) rs
+abbrev pub IsFixForm : {valid : List ℤ → Bool} → FieldOn (Exact valid) → Action → List ℕ → List (ℕ × (ℕ → Exact valid)) → Type 0
+IsFixForm f act h rs = IsEquationsOf f act.dim (Fix f act h) rs

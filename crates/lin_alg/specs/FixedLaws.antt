@@ -1,9 +1,8 @@
 -- Fixed vectors and stabilisers are a Galois connection, for any relation between elements and vectors.
 --
--- fix-antitone, stab-antitone: more elements fix less, and the other way round
--- fix-append: what two lists fix is what both fix
+-- fix-antitone: more elements fix less
 -- fix-stab-fix, stab-fix-stab: Fix(Stab(Fix H)) is Fix H, and Stab(Fix(Stab v)) is Stab v
-use Rattle.std.proofs.Common.{refl, sym, subst, List, [], ◌∷◌, ◌++◌, inl, inr, ◌↔◌}
+use Rattle.std.proofs.Common.{refl, sym, subst, List, [], ◌∷◌, inl, inr, ◌↔◌}
 use Rattle.lin_alg.specs.Fixed.{FixesAll, IsFixedByAll, IsIn}
 
 module _ {E V : Type 0} (R : E → V → Type 0) where
@@ -18,20 +17,6 @@ module _ {E V : Type 0} (R : E → V → Type 0) where
   -- more elements fix less
   pub fix-antitone : (h k : List E) → ((q : E) → IsIn q h → IsIn q k) → (v : V) → IsFixedByAll R k v → IsFixedByAll R h v
   fix-antitone h k t v a = member-fixed h v (λ q m. fixed-member k v q a (t q m))
-
-  pub stab-antitone : (U W : V → Type 0) → ((v : V) → U v → W v) → (q : E) → FixesAll R W q → FixesAll R U q
-  stab-antitone U W t q a v h = a v (t v h)
-
-  -- Fix of both lists is the intersection
-  pub fix-append : (h k : List E) (v : V) → IsFixedByAll R (h ++ k) v ↔ (IsFixedByAll R h v × IsFixedByAll R k v)
-  fix-append [] k v = (λ a. (tt, a), λ a. a.1)
-  fix-append (p ∷ h) k v = (
-    λ a. let t = (fix-append h k v).0 a.1 in ((a.0, t.0), t.1),
-    λ a. (a.0.0, (fix-append h k v).1 (a.0.1, a.1)),
-  )
-
-  pub fix-stab : (h : List E) (q : E) → IsIn q h → FixesAll R (IsFixedByAll R h) q
-  fix-stab h q m v a = fixed-member h v q a m
 
   -- Fix(Stab(Fix H)) = Fix H
   pub fix-stab-fix : (h s : List E) → ((q : E) → IsIn q s → FixesAll R (IsFixedByAll R h) q) → ((q : E) → IsIn q h → IsIn q s) →

@@ -10,7 +10,7 @@ use Rattle.std.proofs.lemmas.Bool.Decides.{eqb_tells}
 use Rattle.std.specs.List.{slice_index}
 use Rattle.cyclo24.specs.FieldOn.{FieldOn}
 use Rattle.cyclo24.specs.FieldLaws.{less-at-nought}
-use Rattle.lin_alg.specs.Spans.{IsInSpan, HasRows}
+use Rattle.lin_alg.specs.Spans.{row_vectors, IsInSpan, HasRows}
 use Rattle.lin_alg.specs.Reduced.{ArePast, IsClear, IsWithin, IsForm, reduce, is_pivot, free_columns}
 use Rattle.lin_alg.specs.InsertLaws.{reduce-has, reduce-clear, member-reduce}
 use Rattle.lin_alg.specs.UnionLaws.{lower}
@@ -131,7 +131,7 @@ module _ {K : Type 0} (f : FieldOn K) where
 
   -- a row that vanishes on the free basis of a form is in its span
   pub free-span : (w : ℕ) (rs : List (ℕ × (ℕ → K))) (x : ℕ → K) → IsForm f w rs → IsWithin f w x →
-      ((i : ℕ) → i < length (free_columns w rs) → dot f w x (free_vector f rs (slice_index (free_columns w rs) i)) ≡ f.nought) → IsInSpan f rs x
+      ((i : ℕ) → i < length (free_columns w rs) → dot f w x (free_vector f rs (slice_index (free_columns w rs) i)) ≡ f.nought) → IsInSpan f (row_vectors rs) x
   free-span w rs x form within h =
       member-reduce f rs x (λ j. elim (dec j w) [
         | inr l ↦ reduce-has f (IsWithin f w) (within-subspace f w) rs form.within x within j l
@@ -141,7 +141,7 @@ module _ {K : Type 0} (f : FieldOn K) where
               | false ↦ λ p.
                   let k = column-held w rs j l p in
                   let v : ℕ → K = free_vector f rs j in
-                  let rows : HasRows (λ y. dot f w y v ≡ f.nought) rs = free-vanishes f w rs j l form.pivots form.reduced in
+                  let rows : HasRows (λ y. dot f w y v ≡ f.nought) (row_vectors rs) = free-vanishes f w rs j l form.pivots form.reduced in
                   let own : dot f w x v ≡ f.nought = subst (λ (z : ℕ). dot f w x (free_vector f rs z) ≡ f.nought) k.2 (h k.0 k.1) in
                   sym (dot-clear f w rs (reduce f rs x) j l form.pivots (reduce-clear f rs x form.reduced))
                   ∙ reduce-has f (λ y. dot f w y v ≡ f.nought) (vanish-subspace f w v) rs rows x own

@@ -6,13 +6,13 @@
 use Rattle.std.proofs.Common.{◌≡◌, ℕ, ◌<◌, ◌≤◌, inl, inr, true, false, refl, sym, ◌∙◌, ap, subst, List, [], ◌∷◌, arith, ltb, if◌then◌else◌}
 use Rattle.std.proofs.lemmas.Bool.{ltb-true, ltb-false}
 use Rattle.cyclo24.specs.FieldOn.{FieldOn}
-use Rattle.lin_alg.specs.Spans.{less, IsInSpan, IsSubspace, HasRows}
+use Rattle.lin_alg.specs.Spans.{row_vectors, less, IsInSpan, IsSubspace, HasRows}
 use Rattle.lin_alg.specs.Reduced.{EndsAt, ArePast, IsReduced, IsClear, reduce, scaled, cleared, placed, inserted}
 use Rattle.cyclo24.specs.FieldLaws.{less-nought, less-own, less-self, less-back, times-nought, times-neg, unit-times}
 use Rattle.lin_alg.specs.SpanLaws.{funext, less-at, in_span-nought, in_span-plus, in_span-times, in_span-past, in_span-head, in_span-less, order, unit-not-nought}
 
 module _ {K : Type 0} (f : FieldOn K) where
-  pub span-subspace : (rs : List (ℕ × (ℕ → K))) → IsSubspace f (IsInSpan f rs)
+  pub span-subspace : (rs : List (ℕ → K)) → IsSubspace f (IsInSpan f rs)
   span-subspace rs = record { has_nought = in_span-nought f rs; has_plus = in_span-plus f rs; has_times = in_span-times f rs }
 
   pub has_neg : (P : (ℕ → K) → Type 0) → IsSubspace f P → (v : ℕ → K) → P v → P (λ j. f.neg (v j))
@@ -30,24 +30,24 @@ module _ {K : Type 0} (f : FieldOn K) where
       subst P e (s.has_plus (less f v c b) (λ j. f.times c (b j)) h (s.has_times c b k))
 
   -- the span is the least subspace that has the rows
-  pub span-least : (P : (ℕ → K) → Type 0) → IsSubspace f P → (rs : List (ℕ × (ℕ → K))) → HasRows P rs → (v : ℕ → K) → IsInSpan f rs v → P v
+  pub span-least : (P : (ℕ → K) → Type 0) → IsSubspace f P → (rs : List (ℕ → K)) → HasRows P rs → (v : ℕ → K) → IsInSpan f rs v → P v
   span-least P s [] a v h = subst P (sym (funext h)) s.has_nought
-  span-least P s (r ∷ rs) a v h = has_back P s v h.0 r.1 (span-least P s rs a.1 _ h.1) a.0
+  span-least P s (r ∷ rs) a v h = has_back P s v h.0 r (span-least P s rs a.1 _ h.1) a.0
 
-  pub rows-mono : (P Q : (ℕ → K) → Type 0) → ((v : ℕ → K) → P v → Q v) → (rs : List (ℕ × (ℕ → K))) → HasRows P rs → HasRows Q rs
+  pub rows-mono : (P Q : (ℕ → K) → Type 0) → ((v : ℕ → K) → P v → Q v) → (rs : List (ℕ → K)) → HasRows P rs → HasRows Q rs
   rows-mono P Q t [] a = tt
-  rows-mono P Q t (r ∷ rs) a = (t r.1 a.0, rows-mono P Q t rs a.1)
+  rows-mono P Q t (r ∷ rs) a = (t r a.0, rows-mono P Q t rs a.1)
 
-  pub span-rows : (rs : List (ℕ × (ℕ → K))) → HasRows (IsInSpan f rs) rs
+  pub span-rows : (rs : List (ℕ → K)) → HasRows (IsInSpan f rs) rs
   span-rows [] = tt
   span-rows (r ∷ rs) = (in_span-head f r rs, rows-mono (IsInSpan f rs) (IsInSpan f (r ∷ rs)) (in_span-past f r rs) rs (span-rows rs))
 
   -- step 1 stays in each subspace that has the rows, and comes back
-  pub reduce-has : (P : (ℕ → K) → Type 0) → IsSubspace f P → (rs : List (ℕ × (ℕ → K))) → HasRows P rs → (v : ℕ → K) → P v → P (reduce f rs v)
+  pub reduce-has : (P : (ℕ → K) → Type 0) → IsSubspace f P → (rs : List (ℕ × (ℕ → K))) → HasRows P (row_vectors rs) → (v : ℕ → K) → P v → P (reduce f rs v)
   reduce-has P s [] a v h = h
   reduce-has P s (r ∷ rs) a v h = reduce-has P s rs a.1 _ (has_less P s v (v r.0) r.1 h a.0)
 
-  pub reduce-back : (P : (ℕ → K) → Type 0) → IsSubspace f P → (rs : List (ℕ × (ℕ → K))) → HasRows P rs → (v : ℕ → K) → P (reduce f rs v) → P v
+  pub reduce-back : (P : (ℕ → K) → Type 0) → IsSubspace f P → (rs : List (ℕ × (ℕ → K))) → HasRows P (row_vectors rs) → (v : ℕ → K) → P (reduce f rs v) → P v
   reduce-back P s [] a v h = h
   reduce-back P s (r ∷ rs) a v h = has_back P s v (v r.0) r.1 (reduce-back P s rs a.1 _ h) a.0
 
@@ -63,16 +63,16 @@ module _ {K : Type 0} (f : FieldOn K) where
       (reduce-at b.0 rs _ r.1 ∙ own, reduce-clear rs _ r.2)
 
   -- a row is in the span exactly where step 1 leaves nothing
-  pub reduce-member : (rs : List (ℕ × (ℕ → K))) (v : ℕ → K) → IsReduced f rs → IsInSpan f rs v → (j : ℕ) → reduce f rs v j ≡ f.nought
+  pub reduce-member : (rs : List (ℕ × (ℕ → K))) (v : ℕ → K) → IsReduced f rs → IsInSpan f (row_vectors rs) v → (j : ℕ) → reduce f rs v j ≡ f.nought
   reduce-member [] v r h = h
   reduce-member (b ∷ rs) v r h = reduce-member rs _ r.2 (in_span-less f b rs v r.0 r.1 h)
 
-  pub member-reduce : (rs : List (ℕ × (ℕ → K))) (v : ℕ → K) → ((j : ℕ) → reduce f rs v j ≡ f.nought) → IsInSpan f rs v
+  pub member-reduce : (rs : List (ℕ × (ℕ → K))) (v : ℕ → K) → ((j : ℕ) → reduce f rs v j ≡ f.nought) → IsInSpan f (row_vectors rs) v
   member-reduce rs v z =
-      reduce-back (IsInSpan f rs) (span-subspace rs) rs (span-rows rs) v (subst (IsInSpan f rs) (sym (funext z)) (in_span-nought f rs))
+      reduce-back (IsInSpan f (row_vectors rs)) (span-subspace (row_vectors rs)) rs (span-rows (row_vectors rs)) v (subst (IsInSpan f (row_vectors rs)) (sym (funext z)) (in_span-nought f (row_vectors rs)))
 
   -- step 1 takes a member of the span away
-  pub reduce-differs : (rs : List (ℕ × (ℕ → K))) (v : ℕ → K) → IsInSpan f rs (less f v f.unit (reduce f rs v))
+  pub reduce-differs : (rs : List (ℕ × (ℕ → K))) (v : ℕ → K) → IsInSpan f (row_vectors rs) (less f v f.unit (reduce f rs v))
   reduce-differs [] v = λ j. less-self f (v j)
   reduce-differs (r ∷ rs) v =
       let c : K = v r.0 in
@@ -81,7 +81,7 @@ module _ {K : Type 0} (f : FieldOn K) where
       λ x a b. f.plus_assoc x a b ∙ ap (f.plus x) (f.plus_comm a b) ∙ sym (f.plus_assoc x b a) in
       let e : less f (less f v c r.1) f.unit w ≡ less f (less f v f.unit w) c r.1 =
       funext (λ j. swap (v j) (f.neg (f.times c (r.1 j))) (f.neg (f.times f.unit (w j)))) in
-      (c, subst (IsInSpan f rs) e (reduce-differs rs (less f v c r.1)))
+      (c, subst (IsInSpan f (row_vectors rs)) e (reduce-differs rs (less f v c r.1)))
 
   -- steps 4 and 5 keep a reduced form
   pub cleared-past : (q p : ℕ) (u : ℕ → K) (rs : List (ℕ × (ℕ → K))) → u q ≡ f.nought → ArePast f q rs → ArePast f q (cleared f p u rs)
@@ -160,49 +160,49 @@ module _ {K : Type 0} (f : FieldOn K) where
       (times-clear (f.inverse (reduce f rs v p)) (reduce f rs v) rs (reduce-clear rs v r))
 
   -- the span of the new form
-  pub placed-rows : (P : (ℕ → K) → Type 0) (p : ℕ) (u : ℕ → K) (rs : List (ℕ × (ℕ → K))) → P u → HasRows P rs → HasRows P (placed p u rs)
+  pub placed-rows : (P : (ℕ → K) → Type 0) (p : ℕ) (u : ℕ → K) (rs : List (ℕ × (ℕ → K))) → P u → HasRows P (row_vectors rs) → HasRows P (row_vectors (placed p u rs))
   placed-rows P p u [] h a = (h, tt)
   placed-rows P p u (r ∷ rs) h a =
-      elim (ltb p r.0) as (λ b. HasRows P (if b then (p, u) ∷ r ∷ rs else r ∷ placed p u rs)) [
+      elim (ltb p r.0) as (λ b. HasRows P (row_vectors (if b then (p, u) ∷ r ∷ rs else r ∷ placed p u rs))) [
         | true ↦ (h, a)
         | false ↦ (a.0, placed-rows P p u rs h a.1)
       ]
 
-  pub rows-placed : (P : (ℕ → K) → Type 0) (p : ℕ) (u : ℕ → K) (rs : List (ℕ × (ℕ → K))) → HasRows P (placed p u rs) → P u × HasRows P rs
+  pub rows-placed : (P : (ℕ → K) → Type 0) (p : ℕ) (u : ℕ → K) (rs : List (ℕ × (ℕ → K))) → HasRows P (row_vectors (placed p u rs)) → P u × HasRows P (row_vectors rs)
   rows-placed P p u [] a = (a.0, tt)
   rows-placed P p u (r ∷ rs) a =
-      (elim (ltb p r.0) as (λ b. HasRows P (if b then (p, u) ∷ r ∷ rs else r ∷ placed p u rs) → P u × HasRows P (r ∷ rs)) [
+      (elim (ltb p r.0) as (λ b. HasRows P (row_vectors (if b then (p, u) ∷ r ∷ rs else r ∷ placed p u rs)) → P u × HasRows P (row_vectors (r ∷ rs))) [
         | true ↦ λ h. (h.0, h.1)
-        | false ↦ λ h. let k : P u × HasRows P rs = rows-placed P p u rs h.1 in (k.0, (h.0, k.1))
+        | false ↦ λ h. let k : P u × HasRows P (row_vectors rs) = rows-placed P p u rs h.1 in (k.0, (h.0, k.1))
       ]) a
 
-  pub cleared-rows : (P : (ℕ → K) → Type 0) → IsSubspace f P → (p : ℕ) (u : ℕ → K) (rs : List (ℕ × (ℕ → K))) → P u → HasRows P rs → HasRows P (cleared f p u rs)
+  pub cleared-rows : (P : (ℕ → K) → Type 0) → IsSubspace f P → (p : ℕ) (u : ℕ → K) (rs : List (ℕ × (ℕ → K))) → P u → HasRows P (row_vectors rs) → HasRows P (row_vectors (cleared f p u rs))
   cleared-rows P s p u [] h a = tt
   cleared-rows P s p u (r ∷ rs) h a = (has_less P s r.1 (r.1 p) u a.0 h, cleared-rows P s p u rs h a.1)
 
-  pub rows-cleared : (P : (ℕ → K) → Type 0) → IsSubspace f P → (p : ℕ) (u : ℕ → K) (rs : List (ℕ × (ℕ → K))) → P u → HasRows P (cleared f p u rs) → HasRows P rs
+  pub rows-cleared : (P : (ℕ → K) → Type 0) → IsSubspace f P → (p : ℕ) (u : ℕ → K) (rs : List (ℕ × (ℕ → K))) → P u → HasRows P (row_vectors (cleared f p u rs)) → HasRows P (row_vectors rs)
   rows-cleared P s p u [] h a = tt
   rows-cleared P s p u (r ∷ rs) h a = (has_back P s r.1 (r.1 p) u a.0 h, rows-cleared P s p u rs h a.1)
 
-  pub inserted-within : (rs : List (ℕ × (ℕ → K))) (v : ℕ → K) (p : ℕ) (w : ℕ → K) → IsInSpan f (inserted f rs v p) w → IsInSpan f ((p, v) ∷ rs) w
+  pub inserted-within : (rs : List (ℕ × (ℕ → K))) (v : ℕ → K) (p : ℕ) (w : ℕ → K) → IsInSpan f (row_vectors (inserted f rs v p)) w → IsInSpan f (v ∷ row_vectors rs) w
   inserted-within rs v p =
-      let all : List (ℕ × (ℕ → K)) = (p, v) ∷ rs in
+      let all : List (ℕ → K) = v ∷ row_vectors rs in
       let P : (ℕ → K) → Type 0 = IsInSpan f all in
       let s : IsSubspace f P = span-subspace all in
       let rows : HasRows P all = span-rows all in
       let u : P (scaled f p (reduce f rs v)) = s.has_times (f.inverse (reduce f rs v p)) (reduce f rs v) (reduce-has P s rs rows.1 v rows.0) in
-      span-least P s (inserted f rs v p) (placed-rows P p _ (cleared f p (scaled f p (reduce f rs v)) rs) u (cleared-rows P s p _ rs u rows.1))
+      span-least P s (row_vectors (inserted f rs v p)) (placed-rows P p _ (cleared f p (scaled f p (reduce f rs v)) rs) u (cleared-rows P s p _ rs u rows.1))
 
   pub inserted-has : (rs : List (ℕ × (ℕ → K))) (v : ℕ → K) (p : ℕ) → f.is_nought (reduce f rs v p) ≡ false →
-      (w : ℕ → K) → IsInSpan f ((p, v) ∷ rs) w → IsInSpan f (inserted f rs v p) w
+      (w : ℕ → K) → IsInSpan f (v ∷ row_vectors rs) w → IsInSpan f (row_vectors (inserted f rs v p)) w
   inserted-has rs v p n =
-      let P : (ℕ → K) → Type 0 = IsInSpan f (inserted f rs v p) in
-      let s : IsSubspace f P = span-subspace (inserted f rs v p) in
+      let P : (ℕ → K) → Type 0 = IsInSpan f (row_vectors (inserted f rs v p)) in
+      let s : IsSubspace f P = span-subspace (row_vectors (inserted f rs v p)) in
       let x : K = reduce f rs v p in
-      let k : P (scaled f p (reduce f rs v)) × HasRows P (cleared f p (scaled f p (reduce f rs v)) rs) =
-      rows-placed P p _ (cleared f p (scaled f p (reduce f rs v)) rs) (span-rows (inserted f rs v p)) in
-      let old : HasRows P rs = rows-cleared P s p _ rs k.0 k.1 in
+      let k : P (scaled f p (reduce f rs v)) × HasRows P (row_vectors (cleared f p (scaled f p (reduce f rs v)) rs)) =
+      rows-placed P p _ (cleared f p (scaled f p (reduce f rs v)) rs) (span-rows (row_vectors (inserted f rs v p))) in
+      let old : HasRows P (row_vectors rs) = rows-cleared P s p _ rs k.0 k.1 in
       let e : (λ (j : ℕ). f.times x (scaled f p (reduce f rs v) j)) ≡ reduce f rs v =
       funext (λ j. sym (f.times_assoc x (f.inverse x) (reduce f rs v j)) ∙ ap (λ y. f.times y (reduce f rs v j)) (f.times-inverse x n) ∙ unit-times f (reduce f rs v j)) in
       let red : P (reduce f rs v) = subst P e (s.has_times x _ k.0) in
-      span-least P s ((p, v) ∷ rs) (reduce-back P s rs old v red, old)
+      span-least P s (v ∷ row_vectors rs) (reduce-back P s rs old v red, old)

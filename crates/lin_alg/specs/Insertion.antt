@@ -4,6 +4,7 @@
 -- IsWideReduce f rows v: taking v to 0 in each pivot column is wide
 -- IsWideInsert f rows v: inserting v into the reduced form is wide
 use Rattle.std.specs.Prelude.{◌≡◌, ℕ, ◌<◌, false, IsTrue, List, [], ◌∷◌, ◌⊎◌}
+use Rattle.cyclo24.specs.FieldOn.{FieldOn}
 use Rattle.cyclo24.specs.ExactField.{ExactField, Value}
 use Rattle.lin_alg.specs.declared.echelon.Grew.{Grew}
 use Rattle.lin_alg.specs.declared.echelon.Grew.TheVariants.{Yes, No}
@@ -12,8 +13,8 @@ use Rattle.lin_alg.specs.Reduced.{reduce, scaled, inserted}
 use Rattle.lin_alg.specs.Rows.{exact_rows}
 
 -- p is the last column where v isn't 0
-abbrev pub IsLastColumn : (f : ExactField) → (ℕ → Value f) → ℕ → Type 0
-IsLastColumn f v p = (f.laws.is_nought (v p) ≡ false) × ((j : ℕ) → p < j → v j ≡ f.laws.nought)
+abbrev pub IsLastColumn : {K : Type 0} → FieldOn K → (ℕ → K) → ℕ → Type 0
+IsLastColumn f v p = (f.is_nought (v p) ≡ false) × ((j : ℕ) → p < j → v j ≡ f.nought)
 
 -- v - c b is wide in a column where b isn't 0
 abbrev pub IsWideLess : (f : ExactField) → (ℕ → Value f) → Value f → (ℕ → Value f) → Type 0
@@ -43,11 +44,11 @@ IsWideClear f p u (r ∷ rs) =
 abbrev pub IsWideInsert : (f : ExactField) → List (ℕ × (ℕ → Value f)) → (ℕ → Value f) → Type 0
 IsWideInsert f rs v =
     IsWideReduce f rs v
-    ⊎ ((p : ℕ) × IsLastColumn f (reduce f.laws rs v) p
+    ⊎ ((p : ℕ) × IsLastColumn f.laws (reduce f.laws rs v) p
     × (IsWideScale f p (reduce f.laws rs v) ⊎ IsWideClear f p (scaled f.laws p (reduce f.laws rs v)) rs))
 
 -- the form after an insertion that answers whether the row was new
-abbrev pub IsInserted : {A : Type 0} (f : ExactField) → (A → Value f) → List (ℕ × List A) → (ℕ → Value f) → Grew → List (ℕ × List A) → Type 0
+abbrev pub IsInserted : {A K : Type 0} → FieldOn K → (A → K) → List (ℕ × List A) → (ℕ → K) → Grew → List (ℕ × List A) → Type 0
 IsInserted f value old v Yes new =
-    (p : ℕ) × IsLastColumn f (reduce f.laws (exact_rows f value old) v) p × (exact_rows f value new ≡ inserted f.laws (exact_rows f value old) v p)
-IsInserted f value old v No new = ((j : ℕ) → reduce f.laws (exact_rows f value old) v j ≡ f.laws.nought) × (new ≡ old)
+    (p : ℕ) × IsLastColumn f (reduce f (exact_rows f value old) v) p × (exact_rows f value new ≡ inserted f (exact_rows f value old) v p)
+IsInserted f value old v No new = ((j : ℕ) → reduce f (exact_rows f value old) v j ≡ f.nought) × (new ≡ old)

@@ -13,6 +13,10 @@ pub mod FormLaws
 pub mod RowLaws
 pub mod Matrix
 pub mod Matrices
+pub mod Blocks
+pub mod TraceLaws
+pub mod BlockLaws
+pub mod PhasedLaws
 pub mod Solving
 pub mod SolvingLaws
 pub mod FreeLaws
@@ -27,5 +31,6 @@ pub mod MoverLaws
 pub mod WitnessLaws
 pub mod MoveLaws
 pub mod ImageLaws
+pub mod LengthLaws
 pub mod CompareLaws
 pub mod IndependenceLaws

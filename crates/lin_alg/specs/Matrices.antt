@@ -3,6 +3,8 @@
 -- mul f d a b: the product, with d inner places
 -- apply f d a v: the image of a vector
 -- unit_entry f i j: the unit matrix
+-- multiple f x a: x times each entry
+-- trace f d a: the sum of the entries on the diagonal
 -- AreEqualBelow n a b: the same entries in the first n rows and columns
 -- block, induced: matrices of blocks, one for each arm
 -- weighted f n w m: the sum of the matrices with weights
@@ -25,6 +27,14 @@ apply f d a v = λ i. total f d (λ k. f.times (a i k) (v k))
 -- 1 on the diagonal, 0 elsewhere
 abbrev pub unit_entry : {K : Type 0} → FieldOn K → ℕ → ℕ → K
 unit_entry f i j = if nat_eq i j then f.unit else f.nought
+
+-- x times each entry
+abbrev pub multiple : {K : Type 0} → FieldOn K → K → (ℕ → ℕ → K) → ℕ → ℕ → K
+multiple f x a = λ i j. f.times x (a i j)
+
+-- the sum of the entries on the diagonal
+abbrev pub trace : {K : Type 0} → FieldOn K → ℕ → (ℕ → ℕ → K) → K
+trace f d a = total f d (λ i. a i i)
 
 -- equal in the first n rows and columns
 abbrev pub AreEqualBelow : {K : Type 0} → ℕ → (ℕ → ℕ → K) → (ℕ → ℕ → K) → Type 0

@@ -1,8 +1,9 @@
 -- What groups that move the members of a type obey.
 --
 -- back-move, move-back: q^-1 undoes q
--- fixes-conjugate, fixes-moved, stabiliser-moved, fix-conjugate, stab-moved: images of fixed members, fixed spaces and stabilisers
--- fix-antitone, stab-antitone, fix-stab-fix, stab-point, fix-same, stab-same: fixed members and stabilisers are a Galois connection
+-- fixes-conjugate, fixes-moved, fix-conjugate, stab-moved: images of fixed members, fixed spaces and stabilisers
+-- move-inverse, move-inverse-identity: how inverses move
+-- stab-same: spaces with the same members have the same stabilisers
 use Rattle.std.proofs.Common.{◌≡◌, ◌↔◌, ◌<◌, ℕ, sym, ◌∙◌, ap, subst}
 use Rattle.algebra.specs.NumberedGroupLaws.{product-identity, product-inverse}
 use Rattle.lin_alg.specs.Moves.{AreConjugateBy, AreMoves, FixOf, Fixes, Moves, StabOf, conjugate, moved}
@@ -39,10 +40,6 @@ module _ {V : Type 0} (g : Moves V) (law : AreMoves g) where
         λ h. ap (g.move a) (sym (back-move q l v)) ∙ both.1 h ∙ back-move q l v,
       )
 
-  -- Stab(q v) is q Stab(v) q^-1
-  pub stabiliser-moved : (q : ℕ) → q < g.group.order → (v : V) → AreConjugateBy g q (λ a. Fixes g a v) (λ a. Fixes g a (g.move q v))
-  stabiliser-moved q l v a m = fixes-moved q a l m v
-
   -- each element is q b q^-1 for a b
   pub conjugate-onto : (q a : ℕ) → q < g.group.order → a < g.group.order → (b : ℕ) × (b < g.group.order) × (a ≡ conjugate g q b)
   conjugate-onto q a l m =
@@ -76,17 +73,6 @@ module _ {V : Type 0} (g : Moves V) (law : AreMoves g) where
     λ h v u. (fixes-moved q a l m v).1 (h (g.move q v) (subst U (sym (back-move q l v)) u)),
   )
 
-  -- the two maps turn inclusions
-  pub fix-antitone : (H K : ℕ → Type 0) → ((a : ℕ) → a < g.group.order → H a → K a) → (v : V) → FixOf g K v → FixOf g H v
-  fix-antitone H K s v h a l m = h a l (s a l m)
-
-  pub stab-antitone : (U W : V → Type 0) → ((v : V) → U v → W v) → (a : ℕ) → StabOf g W a → StabOf g U a
-  stab-antitone U W s a h v u = h v (s v u)
-
-  -- Fix(Stab(Fix(H))) is Fix(H)
-  pub fix-stab-fix : (H : ℕ → Type 0) → AreSame (FixOf g (StabOf g (FixOf g H))) (FixOf g H)
-  fix-stab-fix H v = (λ h a l m. h a l (λ w f. f a l m), λ h a l s. s v h)
-
   -- (a b)^-1 moves by a^-1 and then b^-1
   pub move-inverse : (a b : ℕ) → a < g.group.order → b < g.group.order → (v : V) →
       g.move (g.group.inverse (g.group.product a b)) v ≡ g.move (g.group.inverse b) (g.move (g.group.inverse a) v)
@@ -101,10 +87,3 @@ module _ {V : Type 0} (g : Moves V) (law : AreMoves g) where
 
   pub stab-same : (U W : V → Type 0) → AreSame U W → (a : ℕ) → StabOf g U a ↔ StabOf g W a
   stab-same U W e a = (λ h v w. h v ((e v).1 w), λ h v u. h v ((e v).0 u))
-
-  pub fix-same : (H K : ℕ → Type 0) → ((a : ℕ) → a < g.group.order → H a ↔ K a) → AreSame (FixOf g H) (FixOf g K)
-  fix-same H K e v = (λ h a l k. h a l ((e a l).1 k), λ h a l k. h a l ((e a l).0 k))
-
-  -- Stab(Fix(Stab(v))) is Stab(v)
-  pub stab-point : (v : V) (a : ℕ) → a < g.group.order → Fixes g a v ↔ StabOf g (FixOf g (λ b. Fixes g b v)) a
-  stab-point v a l = (λ h w f. f a l h, λ h. h v (λ b m k. k))

@@ -10,7 +10,7 @@
 -- reduce, scaled, cleared, placed, inserted: the written steps of an insertion
 use Rattle.std.specs.Prelude.{◌≡◌, ℕ, suc, zero, ◌≤◌, ◌<◌, Bool, false, ◌||◌, nat_eq, ltb, if◌then◌else◌, List, [], ◌∷◌, ◌++◌, ◌⊎◌}
 use Rattle.cyclo24.specs.FieldOn.{FieldOn}
-use Rattle.lin_alg.specs.Spans.{less, HasRows}
+use Rattle.lin_alg.specs.Spans.{row_vectors, less, HasRows}
 
 -- 1 at p, and 0 behind it
 abbrev pub EndsAt : {K : Type 0} → FieldOn K → ℕ → (ℕ → K) → Type 0
@@ -59,7 +59,7 @@ PivotsBelow w (r ∷ rs) = (r.0 < w) × PivotsBelow w rs
 pub record IsForm {K : Type 0} (f : FieldOn K) (w : ℕ) (rs : List (ℕ × (ℕ → K))) : Type 0 where
   pub reduced : IsReduced f rs
   pub pivots : PivotsBelow w rs
-  pub within : HasRows (IsWithin f w) rs
+  pub within : HasRows (IsWithin f w) (row_vectors rs)
 
 -- step 1: v less the multiples of the rows by its entries at the pivots
 abbrev pub reduce : {K : Type 0} → FieldOn K → List (ℕ × (ℕ → K)) → (ℕ → K) → ℕ → K

@@ -5,14 +5,14 @@
 -- HaveWidth w rows: each row is w entries long, its pivot below w
 -- AreEnded f value rows: each row is 0 behind its pivot
 use Rattle.std.specs.Prelude.{◌≡◌, ℕ, ◌<◌, List, [], ◌∷◌, length, map, get_or}
-use Rattle.cyclo24.specs.ExactField.{ExactField, Value}
+use Rattle.cyclo24.specs.FieldOn.{FieldOn}
 
 -- the exact values of a row, 0 behind its end
-abbrev pub vector : {A : Type 0} (f : ExactField) → (A → Value f) → List A → ℕ → Value f
-vector f value xs = λ j. get_or (map value xs) j f.laws.nought
+abbrev pub vector : {A K : Type 0} → FieldOn K → (A → K) → List A → ℕ → K
+vector f value xs = λ j. get_or (map value xs) j f.nought
 
 -- the rows with their pivots as exact values
-abbrev pub exact_rows : {A : Type 0} (f : ExactField) → (A → Value f) → List (ℕ × List A) → List (ℕ × (ℕ → Value f))
+abbrev pub exact_rows : {A K : Type 0} → FieldOn K → (A → K) → List (ℕ × List A) → List (ℕ × (ℕ → K))
 exact_rows f value [] = []
 exact_rows f value (r ∷ rs) = (r.0, vector f value r.1) ∷ exact_rows f value rs
 
@@ -22,9 +22,9 @@ HaveWidth w [] = Unit {0}
 HaveWidth w (r ∷ rs) = (r.0 < w) × (length r.1 ≡ w) × HaveWidth w rs
 
 -- each row is 0 behind its pivot
-abbrev pub AreEnded : {A : Type 0} (f : ExactField) → (A → Value f) → List (ℕ × List A) → Type 0
+abbrev pub AreEnded : {A K : Type 0} → FieldOn K → (A → K) → List (ℕ × List A) → Type 0
 AreEnded f value [] = Unit {0}
-AreEnded f value (r ∷ rs) = ((j : ℕ) → r.0 < j → vector f value r.1 j ≡ f.laws.nought) × AreEnded f value rs
+AreEnded f value (r ∷ rs) = ((j : ℕ) → r.0 < j → vector f value r.1 j ≡ f.nought) × AreEnded f value rs
 
 -- each list has this length
 abbrev pub HaveLength : {A : Type 0} → ℕ → List (List A) → Type 0

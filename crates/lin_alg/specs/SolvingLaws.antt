@@ -7,7 +7,7 @@ use Rattle.cyclo24.specs.FieldOn.{FieldOn}
 use Rattle.cyclo24.specs.FieldLaws.{plus-times, unit-times, nought-plus, less-same, less-at-nought, neg-plus-neg, neg-neg}
 use Rattle.cyclo24.specs.TotalLaws.{total-same, total-plus, total-times}
 use Rattle.cyclo24.specs.Sums.{total}
-use Rattle.lin_alg.specs.Spans.{less, IsInSpan, IsSubspace, HasRows, AreSame}
+use Rattle.lin_alg.specs.Spans.{row_vectors, less, IsInSpan, IsSubspace, HasRows, AreSame}
 use Rattle.lin_alg.specs.Reduced.{IsReduced, IsClear}
 use Rattle.lin_alg.specs.SpanLaws.{funext, less-at, clear-nought, unit-not-nought}
 use Rattle.lin_alg.specs.InsertLaws.{span-subspace, span-least, span-rows, has_less, rows-mono}
@@ -99,8 +99,8 @@ module _ {K : Type 0} (f : FieldOn K) (n : ℕ) (a : ℕ → ℕ → K) where
   pub joined-member : (x : ℕ → K) → IsInSpan f (joined_rows f n a n) (joined n x (combination f n x a))
   joined-member x = subst (IsInSpan f (joined_rows f n a n)) (funext (part-is x)) (part-member x n)
 
-  module _ (rs : List (ℕ × (ℕ → K))) (same : AreSame (IsInSpan f rs) (IsInSpan f (joined_rows f n a n))) (t r : ℕ → K)
-      (differs : IsInSpan f rs (less f (joined n (λ _. f.nought) t) f.unit r)) where
+  module _ (rs : List (ℕ × (ℕ → K))) (same : AreSame (IsInSpan f (row_vectors rs)) (IsInSpan f (joined_rows f n a n))) (t r : ℕ → K)
+      (differs : IsInSpan f (row_vectors rs) (less f (joined n (λ _. f.nought) t) f.unit r)) where
     abbrev given : ℕ → K
     given = joined n (λ _. f.nought) t
 
@@ -125,7 +125,7 @@ module _ {K : Type 0} (f : FieldOn K) (n : ℕ) (a : ℕ → ℕ → K) where
   PivotsFrom [] = Unit {0}
   PivotsFrom (r ∷ rs) = (n ≤ r.0) × PivotsFrom rs
 
-  pivots-behind : AreIndependent f n a → (rs : List (ℕ × (ℕ → K))) → IsReduced f rs → HasRows (IsInSpan f (joined_rows f n a n)) rs → PivotsFrom rs
+  pivots-behind : AreIndependent f n a → (rs : List (ℕ × (ℕ → K))) → IsReduced f rs → HasRows (IsInSpan f (joined_rows f n a n)) (row_vectors rs) → PivotsFrom rs
   unfolding PivotsFrom
   pivots-behind ind [] r h = tt
   pivots-behind ind (b ∷ rs) r h = (
@@ -156,21 +156,21 @@ module _ {K : Type 0} (f : FieldOn K) (n : ℕ) (a : ℕ → ℕ → K) where
       side x w ∙ ap (λ z. f.plus z (f.neg y)) (f.plus_comm x w) ∙ sym (side w x)
 
   -- where there is a solution, nothing is left behind the front
-  pub no-solution : AreIndependent f n a → (rs : List (ℕ × (ℕ → K))) → IsReduced f rs → AreSame (IsInSpan f rs) (IsInSpan f (joined_rows f n a n)) → (t r : ℕ → K) →
-      IsInSpan f rs (less f (joined n (λ _. f.nought) t) f.unit r) → IsClear f rs r →
+  pub no-solution : AreIndependent f n a → (rs : List (ℕ × (ℕ → K))) → IsReduced f rs → AreSame (IsInSpan f (row_vectors rs)) (IsInSpan f (joined_rows f n a n)) → (t r : ℕ → K) →
+      IsInSpan f (row_vectors rs) (less f (joined n (λ _. f.nought) t) f.unit r) → IsClear f rs r →
       (y : ℕ → K) → ((j : ℕ) → combination f n y a j ≡ t j) → (j : ℕ) → r (n + j) ≡ f.nought
   no-solution ind rs red same t r differs clear y h j =
       let T : ℕ → K = joined n (λ _. f.nought) t in
       let w : ℕ → K = joined n y (combination f n y a) in
       let d : ℕ → K = less f T f.unit r in
       let u : ℕ → K = less f T f.unit w in
-      let in_w : IsInSpan f rs w = (same w).1 (joined-member y) in
+      let in_w : IsInSpan f (row_vectors rs) w = (same w).1 (joined-member y) in
       let back : (k : ℕ) → n ≤ k → u k ≡ f.nought =
       λ k l.
       (λ z. f.plus (joined-past n (λ _. f.nought) t k l z) (f.neg (f.times f.unit ((joined-past n y (combination f n y a) k l ∙ h (k - n)) z))))
       ∙ ap (λ z. f.plus (t (k - n)) (f.neg z)) (unit-times f (t (k - n))) ∙ f.plus-neg (t (k - n)) in
-      let member : IsInSpan f rs (less f r f.unit u) =
-      subst (IsInSpan f rs) (sym (funext (λ k. turn (r k) (T k) (w k)))) (has_less f (IsInSpan f rs) (span-subspace f rs) w f.unit d in_w differs) in
-      let pivots : PivotsFrom rs = pivots-behind ind rs red (rows-mono f (IsInSpan f rs) (IsInSpan f (joined_rows f n a n)) (λ v m. (same v).0 m) rs (span-rows f rs)) in
+      let member : IsInSpan f (row_vectors rs) (less f r f.unit u) =
+      subst (IsInSpan f (row_vectors rs)) (sym (funext (λ k. turn (r k) (T k) (w k)))) (has_less f (IsInSpan f (row_vectors rs)) (span-subspace f (row_vectors rs)) w f.unit d in_w differs) in
+      let pivots : PivotsFrom rs = pivots-behind ind rs red (rows-mono f (IsInSpan f (row_vectors rs)) (IsInSpan f (joined_rows f n a n)) (λ v m. (same v).0 m) (row_vectors rs) (span-rows f (row_vectors rs))) in
       let none : less f r f.unit u (n + j) ≡ f.nought = clear-nought f rs (less f r f.unit u) red member (clear-less u r rs back pivots clear) (n + j) in
       less-same f (r (n + j)) (u (n + j)) none ∙ back (n + j) (omega arith)

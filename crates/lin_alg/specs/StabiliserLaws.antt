@@ -56,19 +56,19 @@ module _ {K : Type 0} (f : FieldOn K) (char : (n : ℕ) → f.is_nought (ones f 
       ]
 
 module _ (f : ExactField) (act : Action) where
-  pub fixed-subspace : (q : ℕ) → IsSubspace f.laws (IsFixed f act q)
+  pub fixed-subspace : (q : ℕ) → IsSubspace f.laws (IsFixed f.laws act q)
   fixed-subspace q = record {
-    has_nought = λ i l. total-same f.laws act.dim _ (λ _. f.laws.nought) (λ k m. times-nought f.laws (entry_of f act q i k)) ∙ total-nought f.laws act.dim;
+    has_nought = λ i l. total-same f.laws act.dim _ (λ _. f.laws.nought) (λ k m. times-nought f.laws (entry_of f.laws act q i k)) ∙ total-nought f.laws act.dim;
     has_plus = fixed-plus f act q;
     has_times = λ c v h i l.
-        total-same f.laws act.dim _ _ (λ k m. sym (f.laws.times_assoc (entry_of f act q i k) c (v k)) ∙ ap (λ z. f.laws.times z (v k)) (f.laws.times_comm (entry_of f act q i k) c) ∙ f.laws.times_assoc c (entry_of f act q i k) (v k))
-        ∙ total-times f.laws act.dim c (λ k. f.laws.times (entry_of f act q i k) (v k)) ∙ ap (f.laws.times c) (h i l);
+        total-same f.laws act.dim _ _ (λ k m. sym (f.laws.times_assoc (entry_of f.laws act q i k) c (v k)) ∙ ap (λ z. f.laws.times z (v k)) (f.laws.times_comm (entry_of f.laws act q i k) c) ∙ f.laws.times_assoc c (entry_of f.laws act q i k) (v k))
+        ∙ total-times f.laws act.dim c (λ k. f.laws.times (entry_of f.laws act q i k) (v k)) ∙ ap (f.laws.times c) (h i l);
   }
 
   -- each subspace has a vector whose stabiliser is the pointwise stabiliser of the subspace
   pub whole_stabiliser : (U : (ℕ → Value f) → Type 0) → IsSubspace f.laws U →
-      ((q : ℕ) (v : ℕ → Value f) → IsFixed f act q v ⊎ (IsFixed f act q v → ⊥)) →
-      ((q : ℕ) → ((w : ℕ → Value f) → U w → IsFixed f act q w) ⊎ ((w : ℕ → Value f) × U w × (IsFixed f act q w → ⊥))) →
-      (v : ℕ → Value f) × U v × ((q : ℕ) → q < act.group.order → IsFixed f act q v → (w : ℕ → Value f) → U w → IsFixed f act q w)
+      ((q : ℕ) (v : ℕ → Value f) → IsFixed f.laws act q v ⊎ (IsFixed f.laws act q v → ⊥)) →
+      ((q : ℕ) → ((w : ℕ → Value f) → U w → IsFixed f.laws act q w) ⊎ ((w : ℕ → Value f) × U w × (IsFixed f.laws act q w → ⊥))) →
+      (v : ℕ → Value f) × U v × ((q : ℕ) → q < act.group.order → IsFixed f.laws act q v → (w : ℕ → Value f) → U w → IsFixed f.laws act q w)
   whole_stabiliser U sub decide proper =
-      generic_member f.laws f.characteristic_zero U sub (IsFixed f act) fixed-subspace decide proper act.group.order
+      generic_member f.laws f.characteristic_zero U sub (IsFixed f.laws act) fixed-subspace decide proper act.group.order

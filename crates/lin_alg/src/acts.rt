@@ -49,9 +49,9 @@ pub trait Acts<F: Field> {
         requires element { q < (action self.now).group.order }
         requires place { i < (action self.now).dim }
         requires room { length into.old ≡ (action self.now).dim }
-        ensures exact { OnOk result ((j : ℕ) → j < (action self.now).dim → vector F.field F.value into.new j ≡ entry_of F.field (action self.now) q i j) }
+        ensures exact { OnOk result ((j : ℕ) → j < (action self.now).dim → vector F.field.laws F.value into.new j ≡ entry_of F.field.laws (action self.now) q i j) }
         ensures wide { OnErr result (wide self.now) };
 
     /// The laws.
-    ghost lawful: { (x : Self) → IsAction F.field (action x) };
+    ghost lawful: { (x : Self) → IsAction F.field.laws (action x) };
 }

@@ -1,7 +1,7 @@
 // The one reduced echelon form of a span.
-ghost use Rattle.std.specs.Prelude.{◌≡◌, ◌↔◌, ◌<◌, ◌≤◌, ◌+◌, ◌∷◌, [], ℕ, true, false, Ok, Err, IfOk, OnOk, OnErr, length, slice_index_or};
+ghost use Rattle.std.specs.Prelude.{◌≡◌, ◌↔◌, ◌<◌, ◌≤◌, ◌+◌, ◌∷◌, [], ℕ, true, false, Ok, Err, IfOk, OnOk, OnErr, length, map, slice_index_or};
 ghost use Rattle.cyclo24.specs.ExactField.{Value};
-ghost use Rattle.lin_alg.specs.Spans.{less, IsInSpan, AreSame};
+ghost use Rattle.lin_alg.specs.Spans.{row_vectors, less, IsInSpan, AreSame};
 ghost use Rattle.lin_alg.specs.Reduced.{IsClear};
 ghost use Rattle.lin_alg.specs.Rows.{vector, exact_rows};
 ghost use Rattle.lin_alg.specs.Equations.{dot};
@@ -13,13 +13,14 @@ ghost use Rattle.lin_alg.specs.declared.echelon.Grew.TheVariants as grew;
 mod compare;
 mod free;
 
-use crate::LinError;
 use crate::elimination::{insert_row, last_column, reduce_row};
 use crate::memory::{add_spare, copy_lines};
+use crate::{LinError, Steps};
 use cyclo24::{Field, Wide};
 use iso_text::NoMemory;
 use std::alloc::Global;
 use std::marker::Model;
+use std::sync::ledger::Ledger;
 
 /// Whether an insertion enlarged the span.
 #[derive(Clone, Copy, Debug, PartialEq, Eq)]
@@ -49,7 +50,7 @@ impl<F: Field> Model for Echelon<F> {
 
     ghost view = { λ e. record { width = e.width; whole = e.whole; rows = map (λ r. (r.0, r.1.items)) e.lines.items; spare = vec_len e.spare } };
 
-    ghost invariant = { λ e. (vec_len e.lines + vec_len e.spare ≤ vec_capacity e.lines) × HaveLength e.width (map (λ r. r.items) e.spare.items) × IsEchelon F.field F.value (record { width = e.width; whole = e.whole; rows = map (λ r. (r.0, r.1.items)) e.lines.items; spare = vec_len e.spare }) };
+    ghost invariant = { λ e. (vec_len e.lines + vec_len e.spare ≤ vec_capacity e.lines) × HaveLength e.width (map (λ r. r.items) e.spare.items) × IsEchelon F.field.laws F.value (record { width = e.width; whole = e.whole; rows = map (λ r. (r.0, r.1.items)) e.lines.items; spare = vec_len e.spare }) };
 }
 
 impl<F: Field> Echelon<F> {
@@ -58,12 +59,28 @@ impl<F: Field> Echelon<F> {
         ensures width { result.width ≡ width }
         ensures whole { result.whole ≡ true }
         ensures rows { result.rows ≡ [] }
-        ensures form { IsEchelon F.field F.value result }
+        ensures form { IsEchelon F.field.laws F.value result }
     {
         Echelon {
             width,
             whole: true,
             lines: Vec::new(alloc),
+            spare: Vec::new(alloc),
+        }
+    }
+
+    /// The form of these rows, each with its pivot. It takes no memory.
+    pub fn from_rows(alloc: Global, width: usize, lines: Vec<(usize, Vec<F>)>) -> Echelon<F>
+        requires { IsEchelon F.field.laws F.value (record { width = width; whole = true; rows = map (λ r. (r.0, r.1.items)) lines.items; spare = 0 }) }
+        ensures width { result.width ≡ width }
+        ensures whole { result.whole ≡ true }
+        ensures rows { result.rows ≡ map (λ r. (r.0, r.1.items)) lines.items }
+        ensures form { IsEchelon F.field.laws F.value result }
+    {
+        Echelon {
+            width,
+            whole: true,
+            lines,
             spare: Vec::new(alloc),
         }
     }
@@ -78,7 +95,7 @@ impl<F: Field> Echelon<F> {
     /// Whether the rows are a reduced form: no insertion was wide.
     pub fn is_whole(&self) -> bool
         ensures whole { result ≡ self.now.whole }
-        ensures form { IsEchelon F.field F.value self.now }
+        ensures form { IsEchelon F.field.laws F.value self.now }
     {
         self.whole
     }
@@ -111,7 +128,7 @@ impl<F: Field> Echelon<F> {
         ensures width { self.new.width ≡ self.old.width }
         ensures whole { self.new.whole ≡ self.old.whole }
         ensures rows { self.new.rows ≡ self.old.rows }
-        ensures form { IsEchelon F.field F.value self.new }
+        ensures form { IsEchelon F.field.laws F.value self.new }
         ensures room { OnOk result (rows ≤ self.new.spare) }
         ensures spare { self.old.spare ≤ self.new.spare }
     {
@@ -125,7 +142,7 @@ impl<F: Field> Echelon<F> {
         ensures width { IfOk result (λ copy. copy.width ≡ self.now.width) }
         ensures whole { IfOk result (λ copy. copy.whole ≡ self.now.whole) }
         ensures rows { IfOk result (λ copy. copy.rows ≡ self.now.rows) }
-        ensures form { IfOk result (λ copy. IsEchelon F.field F.value copy) }
+        ensures form { IfOk result (λ copy. IsEchelon F.field.laws F.value copy) }
     {
         let lines = copy_lines(alloc, &self.lines)?;
         Ok(Echelon {
@@ -141,9 +158,9 @@ impl<F: Field> Echelon<F> {
     pub fn reduce(&self, row: &mut [F]) -> Result<(), Wide>
         requires whole { self.now.whole ≡ true }
         requires width { length row.old ≡ self.now.width }
-        ensures differs { OnOk result (IsSpanned F.field F.value self.now (less F.field.laws (vector F.field F.value row.old) F.field.laws.unit (vector F.field F.value row.new))) }
-        ensures clear { OnOk result (IsClear F.field.laws (exact_rows F.field F.value self.now.rows) (vector F.field F.value row.new)) }
-        ensures wide { OnErr result (IsWideReduce F.field (exact_rows F.field F.value self.now.rows) (vector F.field F.value row.old)) }
+        ensures differs { OnOk result (IsSpanned F.field.laws F.value self.now (less F.field.laws (vector F.field.laws F.value row.old) F.field.laws.unit (vector F.field.laws F.value row.new))) }
+        ensures clear { OnOk result (IsClear F.field.laws (exact_rows F.field.laws F.value self.now.rows) (vector F.field.laws F.value row.new)) }
+        ensures wide { OnErr result (IsWideReduce F.field (exact_rows F.field.laws F.value self.now.rows) (vector F.field.laws F.value row.old)) }
     {
         reduce_row(&self.lines, row)?;
         Ok(())
@@ -153,8 +170,8 @@ impl<F: Field> Echelon<F> {
     pub fn contains(&self, row: &mut [F]) -> Result<bool, Wide>
         requires whole { self.now.whole ≡ true }
         requires width { length row.old ≡ self.now.width }
-        ensures member { IfOk result (λ b. (b ≡ true) ↔ IsSpanned F.field F.value self.now (vector F.field F.value row.old)) }
-        ensures wide { OnErr result (IsWideReduce F.field (exact_rows F.field F.value self.now.rows) (vector F.field F.value row.old)) }
+        ensures member { IfOk result (λ b. (b ≡ true) ↔ IsSpanned F.field.laws F.value self.now (vector F.field.laws F.value row.old)) }
+        ensures wide { OnErr result (IsWideReduce F.field (exact_rows F.field.laws F.value self.now.rows) (vector F.field.laws F.value row.old)) }
     {
         reduce_row(&self.lines, row)?;
         match last_column(row) {
@@ -164,23 +181,30 @@ impl<F: Field> Echelon<F> {
     }
 
     /// Inserts a row, so that the form is that of the span with the row, and tells whether the row
-    /// was new. It takes memory only where there is no room. After `Wide` the form isn't whole; after
-    /// want of memory it is as it was. The row holds any values afterwards.
-    pub fn insert(&mut self, row: &mut [F]) -> Result<Grew, LinError>
+    /// was new. It is one step, whatever it answers. It takes memory only where there is no room. After
+    /// `Wide` the form isn't whole; after want of memory it is as it was. The row holds any values
+    /// afterwards.
+    pub fn insert<L: Ledger>(
+        &mut self,
+        row: &mut [F],
+        steps: &mut Steps<L>,
+    ) -> Result<Grew, LinError>
         requires whole { self.old.whole ≡ true }
         requires width { length row.old ≡ self.old.width }
         ensures width { self.new.width ≡ self.old.width }
-        ensures form { IsEchelon F.field F.value self.new }
+        ensures form { IsEchelon F.field.laws F.value self.new }
         ensures whole { OnOk result (self.new.whole ≡ true) }
-        ensures span { OnOk result (AreSame (IsSpanned F.field F.value self.new) (IsInSpan F.field.laws ((0, vector F.field F.value row.old) ∷ exact_rows F.field F.value self.old.rows))) }
-        ensures cut { OnOk result ((v : ℕ → Value F.field) → IsSolution F.field F.value self.new v ↔ ((dot F.field.laws self.old.width (vector F.field F.value row.old) v ≡ F.field.laws.nought) × IsSolution F.field F.value self.old v)) }
-        ensures grew { IfOk result (λ answer. (answer ≡ grew.Yes) ↔ (IsSpanned F.field F.value self.old (vector F.field F.value row.old) → ⊥)) }
+        ensures span { OnOk result (AreSame (IsSpanned F.field.laws F.value self.new) (IsInSpan F.field.laws (vector F.field.laws F.value row.old ∷ row_vectors (exact_rows F.field.laws F.value self.old.rows)))) }
+        ensures cut { OnOk result ((v : ℕ → Value F.field) → IsSolution F.field.laws F.value self.new v ↔ ((dot F.field.laws self.old.width (vector F.field.laws F.value row.old) v ≡ F.field.laws.nought) × IsSolution F.field.laws F.value self.old v)) }
+        ensures grew { IfOk result (λ answer. (answer ≡ grew.Yes) ↔ (IsSpanned F.field.laws F.value self.old (vector F.field.laws F.value row.old) → ⊥)) }
         ensures stays { IfOk result (λ answer. (answer ≡ grew.No) → self.new.rows ≡ self.old.rows) }
-        ensures wide { (result ≡ Err lin_error.Wide) → (self.new.whole ≡ false) × IsWideInsert F.field (exact_rows F.field F.value self.old.rows) (vector F.field F.value row.old) }
+        ensures wide { (result ≡ Err lin_error.Wide) → (self.new.whole ≡ false) × IsWideInsert F.field (exact_rows F.field.laws F.value self.old.rows) (vector F.field.laws F.value row.old) }
         ensures memory { (result ≡ Err lin_error.NoMemory) → (self.old.spare ≡ 0) × (self.new.whole ≡ true) × (self.new.rows ≡ self.old.rows) }
         ensures spare { self.old.spare ≤ self.new.spare + 1 }
         ensures room { (result ≡ Ok grew.Yes → ⊥) → self.old.spare ≤ self.new.spare }
+        ensures cost { steps.new ≡ steps.old + 1 }
     {
+        steps.tick();
         self.make_room()?;
         match insert_row(&mut self.lines, &mut self.spare, row) {
             Ok(grew) => Ok(grew),
@@ -196,7 +220,7 @@ impl<F: Field> Echelon<F> {
         ensures width { self.new.width ≡ self.old.width }
         ensures whole { self.new.whole ≡ self.old.whole }
         ensures rows { self.new.rows ≡ self.old.rows }
-        ensures form { IsEchelon F.field F.value self.new }
+        ensures form { IsEchelon F.field.laws F.value self.new }
         ensures room { OnOk result (0 < self.new.spare) }
         ensures spare { self.old.spare ≤ self.new.spare }
         ensures memory { OnErr result (self.old.spare ≡ 0) }

@@ -17,8 +17,8 @@ use cyclo24::{Field, Wide};
 fn take_multiple<F: Field>(row: &mut [F], p: usize, b: &[F]) -> Result<(), Wide>
     requires place { p < length row.old }
     requires length { length b.now ≤ length row.old }
-    ensures exact { OnOk result (vector F.field F.value row.new ≡ less F.field.laws (vector F.field F.value row.old) (vector F.field F.value row.old p) (vector F.field F.value b.now)) }
-    ensures wide { OnErr result (IsWideLess F.field (vector F.field F.value row.old) (vector F.field F.value row.old p) (vector F.field F.value b.now)) }
+    ensures exact { OnOk result (vector F.field.laws F.value row.new ≡ less F.field.laws (vector F.field.laws F.value row.old) (vector F.field.laws F.value row.old p) (vector F.field.laws F.value b.now)) }
+    ensures wide { OnErr result (IsWideLess F.field (vector F.field.laws F.value row.old) (vector F.field.laws F.value row.old p) (vector F.field.laws F.value b.now)) }
 {
     let c = entry(row, p);
     for j in 0..b.len() {
@@ -33,7 +33,7 @@ fn take_multiple<F: Field>(row: &mut [F], p: usize, b: &[F]) -> Result<(), Wide>
 // The entry at a column.
 pub(crate) fn entry<F: Field>(row: &[F], p: usize) -> F
     requires { p < length row.now }
-    ensures { F.value result ≡ vector F.field F.value row.now p }
+    ensures { F.value result ≡ vector F.field.laws F.value row.now p }
 {
     row[p]
 }
@@ -42,9 +42,9 @@ pub(crate) fn entry<F: Field>(row: &[F], p: usize) -> F
 #[inline(never)]
 pub(crate) fn reduce_row<F: Field>(lines: &[(usize, Vec<F>)], row: &mut [F]) -> Result<(), Wide>
     requires shape { HaveWidth (length row.old) (map (λ r. (r.0, r.1.items)) lines.now) }
-    requires ended { AreEnded F.field F.value (map (λ r. (r.0, r.1.items)) lines.now) }
-    ensures exact { OnOk result (vector F.field F.value row.new ≡ reduce F.field.laws (exact_rows F.field F.value (map (λ r. (r.0, r.1.items)) lines.now)) (vector F.field F.value row.old)) }
-    ensures wide { OnErr result (IsWideReduce F.field (exact_rows F.field F.value (map (λ r. (r.0, r.1.items)) lines.now)) (vector F.field F.value row.old)) }
+    requires ended { AreEnded F.field.laws F.value (map (λ r. (r.0, r.1.items)) lines.now) }
+    ensures exact { OnOk result (vector F.field.laws F.value row.new ≡ reduce F.field.laws (exact_rows F.field.laws F.value (map (λ r. (r.0, r.1.items)) lines.now)) (vector F.field.laws F.value row.old)) }
+    ensures wide { OnErr result (IsWideReduce F.field (exact_rows F.field.laws F.value (map (λ r. (r.0, r.1.items)) lines.now)) (vector F.field.laws F.value row.old)) }
 {
     for line in lines {
         if !entry(row, line.0).is_zero() {
@@ -56,7 +56,7 @@ pub(crate) fn reduce_row<F: Field>(lines: &[(usize, Vec<F>)], row: &mut [F]) -> 
 
 // The last column where the row isn't 0.
 pub(crate) fn last_column<F: Field>(row: &[F]) -> Option<usize>
-    ensures { MatchOption result ((j : ℕ) → vector F.field F.value row.now j ≡ F.field.laws.nought) (λ p. (p < length row.now) × IsLastColumn F.field (vector F.field F.value row.now) p) }
+    ensures { MatchOption result ((j : ℕ) → vector F.field.laws F.value row.now j ≡ F.field.laws.nought) (λ p. (p < length row.now) × IsLastColumn F.field.laws (vector F.field.laws F.value row.now) p) }
 {
     for i in (0..row.len()).rev() {
         if !entry(row, i).is_zero() {
@@ -69,9 +69,9 @@ pub(crate) fn last_column<F: Field>(row: &[F]) -> Option<usize>
 // Step 3: the row divided by its entry at p, the last that isn't 0.
 fn scale<F: Field>(row: &mut [F], p: usize) -> Result<(), Wide>
     requires place { p < length row.old }
-    requires last { IsLastColumn F.field (vector F.field F.value row.old) p }
-    ensures exact { OnOk result (vector F.field F.value row.new ≡ scaled F.field.laws p (vector F.field F.value row.old)) }
-    ensures wide { OnErr result (IsWideScale F.field p (vector F.field F.value row.old)) }
+    requires last { IsLastColumn F.field.laws (vector F.field.laws F.value row.old) p }
+    ensures exact { OnOk result (vector F.field.laws F.value row.new ≡ scaled F.field.laws p (vector F.field.laws F.value row.old)) }
+    ensures wide { OnErr result (IsWideScale F.field p (vector F.field.laws F.value row.old)) }
 {
     let u = entry(row, p).inv()?;
     for j in 0..p + 1 {
@@ -84,7 +84,7 @@ fn scale<F: Field>(row: &mut [F], p: usize) -> Result<(), Wide>
 
 // How many rows have a pivot at most p before the first past it.
 fn place_of<F: Field>(lines: &[(usize, Vec<F>)], p: usize) -> usize
-    ensures { (at : result ≤ length lines.now) × ((u : List F) → placed p (vector F.field F.value u) (exact_rows F.field F.value (map (λ r. (r.0, r.1.items)) lines.now)) ≡ exact_rows F.field F.value (take result (map (λ r. (r.0, r.1.items)) lines.now) ++ (p, u) ∷ drop result (map (λ r. (r.0, r.1.items)) lines.now))) }
+    ensures { (at : result ≤ length lines.now) × ((u : List F) → placed p (vector F.field.laws F.value u) (exact_rows F.field.laws F.value (map (λ r. (r.0, r.1.items)) lines.now)) ≡ exact_rows F.field.laws F.value (take result (map (λ r. (r.0, r.1.items)) lines.now) ++ (p, u) ∷ drop result (map (λ r. (r.0, r.1.items)) lines.now))) }
 {
     for (i, line) in lines.iter().enumerate() {
         if p < line.0 {
@@ -99,10 +99,10 @@ fn place_of<F: Field>(lines: &[(usize, Vec<F>)], p: usize) -> usize
 fn clear_lines<F: Field>(lines: &mut [(usize, Vec<F>)], p: usize, row: &[F]) -> Result<(), Wide>
     requires shape { HaveWidth (length row.now) (map (λ r. (r.0, r.1.items)) lines.old) }
     requires place { p < length row.now }
-    requires ended { (j : ℕ) → p < j → vector F.field F.value row.now j ≡ F.field.laws.nought }
+    requires ended { (j : ℕ) → p < j → vector F.field.laws F.value row.now j ≡ F.field.laws.nought }
     ensures shape { HaveWidth (length row.now) (map (λ r. (r.0, r.1.items)) lines.new) }
-    ensures exact { OnOk result (exact_rows F.field F.value (map (λ r. (r.0, r.1.items)) lines.new) ≡ cleared F.field.laws p (vector F.field F.value row.now) (exact_rows F.field F.value (map (λ r. (r.0, r.1.items)) lines.old))) }
-    ensures wide { OnErr result (IsWideClear F.field p (vector F.field F.value row.now) (exact_rows F.field F.value (map (λ r. (r.0, r.1.items)) lines.old))) }
+    ensures exact { OnOk result (exact_rows F.field.laws F.value (map (λ r. (r.0, r.1.items)) lines.new) ≡ cleared F.field.laws p (vector F.field.laws F.value row.now) (exact_rows F.field.laws F.value (map (λ r. (r.0, r.1.items)) lines.old))) }
+    ensures wide { OnErr result (IsWideClear F.field p (vector F.field.laws F.value row.now) (exact_rows F.field.laws F.value (map (λ r. (r.0, r.1.items)) lines.old))) }
 {
     let head = &row[..p + 1];
     for i in 0..lines.len() {
@@ -147,15 +147,15 @@ pub(crate) fn insert_row<F: Field>(
     requires some { 0 < vec_len spare.old }
     requires long { HaveLength (length row.old) (map (λ r. r.items) spare.old.items) }
     requires shape { HaveWidth (length row.old) (map (λ r. (r.0, r.1.items)) lines.old.items) }
-    requires ended { AreEnded F.field F.value (map (λ r. (r.0, r.1.items)) lines.old.items) }
+    requires ended { AreEnded F.field.laws F.value (map (λ r. (r.0, r.1.items)) lines.old.items) }
     ensures room { vec_len lines.new + vec_len spare.new ≤ vec_capacity lines.new }
     ensures less { IfOk result (λ g. (g ≡ grew.No) → vec_len spare.new ≡ vec_len spare.old) }
     ensures one { vec_len spare.old ≤ vec_len spare.new + 1 }
     ensures kept { OnErr result (vec_len spare.new ≡ vec_len spare.old) }
     ensures long { HaveLength (length row.old) (map (λ r. r.items) spare.new.items) }
     ensures shape { HaveWidth (length row.old) (map (λ r. (r.0, r.1.items)) lines.new.items) }
-    ensures exact { IfOk result (λ g. IsInserted F.field F.value (map (λ r. (r.0, r.1.items)) lines.old.items) (vector F.field F.value row.old) g (map (λ r. (r.0, r.1.items)) lines.new.items)) }
-    ensures wide { OnErr result (IsWideInsert F.field (exact_rows F.field F.value (map (λ r. (r.0, r.1.items)) lines.old.items)) (vector F.field F.value row.old)) }
+    ensures exact { IfOk result (λ g. IsInserted F.field.laws F.value (map (λ r. (r.0, r.1.items)) lines.old.items) (vector F.field.laws F.value row.old) g (map (λ r. (r.0, r.1.items)) lines.new.items)) }
+    ensures wide { OnErr result (IsWideInsert F.field (exact_rows F.field.laws F.value (map (λ r. (r.0, r.1.items)) lines.old.items)) (vector F.field.laws F.value row.old)) }
 {
     reduce_row(lines, row)?;
     match last_column(row) {

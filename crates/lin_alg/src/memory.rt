@@ -6,10 +6,10 @@ use cyclo24::Field;
 use iso_text::NoMemory;
 use std::alloc::Global;
 
-// A row of zeros.
-pub(crate) fn zeros<F: Field>(alloc: Global, len: usize) -> Result<Vec<F>, NoMemory>
+/// A row of zeros.
+pub fn zeros<F: Field>(alloc: Global, len: usize) -> Result<Vec<F>, NoMemory>
     ensures len { IfOk result (λ v. length v.items ≡ len) }
-    ensures zero { IfOk result (λ v. (j : ℕ) → vector F.field F.value v.items j ≡ F.field.laws.nought) }
+    ensures zero { IfOk result (λ v. (j : ℕ) → vector F.field.laws F.value v.items j ≡ F.field.laws.nought) }
 {
     let mut row = Vec::with_capacity(alloc, len)?;
     match row.resize(len, F::zero()) {

@@ -1,7 +1,7 @@
 // Solving systems of linear equations.
 ghost use Rattle.std.specs.Prelude.{◌≡◌, ◌<◌, ◌≤◌, ◌+◌, ◌∷◌, ℕ, true, Err, None, IfOk, IfSome, OnOk, length};
 ghost use Rattle.cyclo24.specs.ExactField.{Value};
-ghost use Rattle.lin_alg.specs.Spans.{IsInSpan, AreSame};
+ghost use Rattle.lin_alg.specs.Spans.{row_vectors, IsInSpan, AreSame};
 ghost use Rattle.lin_alg.specs.Rows.{vector, exact_rows};
 ghost use Rattle.lin_alg.specs.Equations.{unit_vector};
 ghost use Rattle.lin_alg.specs.Insertion.{IsWideInsert};
@@ -11,10 +11,12 @@ ghost use Rattle.lin_alg.specs.Solving.{combination, AreIndependent, joined, joi
 ghost use Rattle.lin_alg.specs.declared.errors.LinError.TheVariants as lin_error;
 
 use crate::memory::zeros;
-use crate::{Echelon, LinError, Matrix, Row};
+use crate::{Echelon, LinError, Matrix, Row, Steps};
 use cyclo24::Field;
 use iso_text::NoMemory;
 use std::alloc::Global;
+use std::marker::Brand;
+use std::sync::ledger::{Blank, Ledger};
 
 /// The x with x 0 times row 0, + .. + x (n - 1) times row n - 1 equal to the target, and `None`
 /// where there is none. The n rows are independent. Each row, with its unit vector in front, is
@@ -26,15 +28,15 @@ pub fn solve<F: Field>(
     target: &[F],
 ) -> Result<Option<Row<F>>, LinError>
     requires width { length target.now ≡ rows.now.cols }
-    requires independent { AreIndependent F.field.laws rows.now.rows (entry_of F.field F.value rows.now) }
+    requires independent { AreIndependent F.field.laws rows.now.rows (entry_of F.field.laws F.value rows.now) }
     ensures length { IfOk result (λ answer. IfSome answer (λ x. length x ≡ rows.now.rows)) }
-    ensures solution { IfOk result (λ answer. IfSome answer (λ x. (j : ℕ) → combination F.field.laws rows.now.rows (vector F.field F.value x) (entry_of F.field F.value rows.now) j ≡ vector F.field F.value target.now j)) }
-    ensures only { IfOk result (λ answer. IfSome answer (λ x. (y : ℕ → Value F.field) → ((j : ℕ) → combination F.field.laws rows.now.rows y (entry_of F.field F.value rows.now) j ≡ vector F.field F.value target.now j) → (i : ℕ) → i < rows.now.rows → y i ≡ vector F.field F.value x i)) }
-    ensures none { IfOk result (λ answer. answer ≡ None → (y : ℕ → Value F.field) → ((j : ℕ) → combination F.field.laws rows.now.rows y (entry_of F.field F.value rows.now) j ≡ vector F.field F.value target.now j) → ⊥) }
-    ensures wide { (result ≡ Err lin_error.Wide) → IsWideSolve F.field rows.now.rows (entry_of F.field F.value rows.now) (vector F.field F.value target.now) }
+    ensures solution { IfOk result (λ answer. IfSome answer (λ x. (j : ℕ) → combination F.field.laws rows.now.rows (vector F.field.laws F.value x) (entry_of F.field.laws F.value rows.now) j ≡ vector F.field.laws F.value target.now j)) }
+    ensures only { IfOk result (λ answer. IfSome answer (λ x. (y : ℕ → Value F.field) → ((j : ℕ) → combination F.field.laws rows.now.rows y (entry_of F.field.laws F.value rows.now) j ≡ vector F.field.laws F.value target.now j) → (i : ℕ) → i < rows.now.rows → y i ≡ vector F.field.laws F.value x i)) }
+    ensures none { IfOk result (λ answer. answer ≡ None → (y : ℕ → Value F.field) → ((j : ℕ) → combination F.field.laws rows.now.rows y (entry_of F.field.laws F.value rows.now) j ≡ vector F.field.laws F.value target.now j) → ⊥) }
+    ensures wide { (result ≡ Err lin_error.Wide) → IsWideSolve F.field rows.now.rows (entry_of F.field.laws F.value rows.now) (vector F.field.laws F.value target.now) }
 {
     let n = rows.rows();
-    let form = match joined_form(alloc, rows) {
+    let form = match joined_form::<F, Brand>(alloc, rows, Blank::new(1)) {
         Ok(form) => form,
         Err(error) => return Err(error),
     };
@@ -51,17 +53,17 @@ fn solve_by<F: Field>(
     target: &[F],
 ) -> Result<Option<Row<F>>, LinError>
     requires whole { form.now.whole ≡ true }
-    requires form { IsEchelon F.field F.value form.now }
-    requires span { AreSame (IsSpanned F.field F.value form.now) (IsInSpan F.field.laws (joined_rows F.field.laws rows.now.rows (entry_of F.field F.value rows.now) rows.now.rows)) }
+    requires form { IsEchelon F.field.laws F.value form.now }
+    requires span { AreSame (IsSpanned F.field.laws F.value form.now) (IsInSpan F.field.laws (joined_rows F.field.laws rows.now.rows (entry_of F.field.laws F.value rows.now) rows.now.rows)) }
     requires room { length left.old ≡ form.now.width }
     requires width { rows.now.rows + length target.now ≡ length left.old }
-    requires zero { (j : ℕ) → vector F.field F.value left.old j ≡ F.field.laws.nought }
-    requires independent { AreIndependent F.field.laws rows.now.rows (entry_of F.field F.value rows.now) }
+    requires zero { (j : ℕ) → vector F.field.laws F.value left.old j ≡ F.field.laws.nought }
+    requires independent { AreIndependent F.field.laws rows.now.rows (entry_of F.field.laws F.value rows.now) }
     ensures length { IfOk result (λ answer. IfSome answer (λ x. length x ≡ rows.now.rows)) }
-    ensures solution { IfOk result (λ answer. IfSome answer (λ x. (j : ℕ) → combination F.field.laws rows.now.rows (vector F.field F.value x) (entry_of F.field F.value rows.now) j ≡ vector F.field F.value target.now j)) }
-    ensures only { IfOk result (λ answer. IfSome answer (λ x. (y : ℕ → Value F.field) → ((j : ℕ) → combination F.field.laws rows.now.rows y (entry_of F.field F.value rows.now) j ≡ vector F.field F.value target.now j) → (i : ℕ) → i < rows.now.rows → y i ≡ vector F.field F.value x i)) }
-    ensures none { IfOk result (λ answer. answer ≡ None → (y : ℕ → Value F.field) → ((j : ℕ) → combination F.field.laws rows.now.rows y (entry_of F.field F.value rows.now) j ≡ vector F.field F.value target.now j) → ⊥) }
-    ensures wide { (result ≡ Err lin_error.Wide) → IsWideSolve F.field rows.now.rows (entry_of F.field F.value rows.now) (vector F.field F.value target.now) }
+    ensures solution { IfOk result (λ answer. IfSome answer (λ x. (j : ℕ) → combination F.field.laws rows.now.rows (vector F.field.laws F.value x) (entry_of F.field.laws F.value rows.now) j ≡ vector F.field.laws F.value target.now j)) }
+    ensures only { IfOk result (λ answer. IfSome answer (λ x. (y : ℕ → Value F.field) → ((j : ℕ) → combination F.field.laws rows.now.rows y (entry_of F.field.laws F.value rows.now) j ≡ vector F.field.laws F.value target.now j) → (i : ℕ) → i < rows.now.rows → y i ≡ vector F.field.laws F.value x i)) }
+    ensures none { IfOk result (λ answer. answer ≡ None → (y : ℕ → Value F.field) → ((j : ℕ) → combination F.field.laws rows.now.rows y (entry_of F.field.laws F.value rows.now) j ≡ vector F.field.laws F.value target.now j) → ⊥) }
+    ensures wide { (result ≡ Err lin_error.Wide) → IsWideSolve F.field rows.now.rows (entry_of F.field.laws F.value rows.now) (vector F.field.laws F.value target.now) }
 {
     let n = rows.rows();
     place_target(left, n, target);
@@ -78,8 +80,8 @@ fn solve_by<F: Field>(
 // Writes the target behind n zeros.
 fn place_target<F: Field>(row: &mut [F], n: usize, target: &[F])
     requires width { n + length target.now ≡ length row.old }
-    requires zero { (j : ℕ) → vector F.field F.value row.old j ≡ F.field.laws.nought }
-    ensures { vector F.field F.value row.new ≡ joined n (λ _. F.field.laws.nought) (vector F.field F.value target.now) }
+    requires zero { (j : ℕ) → vector F.field.laws F.value row.old j ≡ F.field.laws.nought }
+    ensures { vector F.field.laws F.value row.new ≡ joined n (λ _. F.field.laws.nought) (vector F.field.laws F.value target.now) }
 {
     for p in n..row.len() {
         row[p] = target[p - n];
@@ -90,9 +92,9 @@ fn place_target<F: Field>(row: &mut [F], n: usize, target: &[F])
 fn answer_of<F: Field>(alloc: Global, left: &[F], n: usize) -> Result<Option<Row<F>>, NoMemory>
     requires { n ≤ length left.now }
     ensures length { IfOk result (λ answer. IfSome answer (λ x. length x ≡ n)) }
-    ensures front { IfOk result (λ answer. IfSome answer (λ x. (j : ℕ) → j < n → vector F.field F.value x j ≡ F.field.laws.neg (vector F.field F.value left.now j))) }
-    ensures zero { IfOk result (λ answer. IfSome answer (λ _. (j : ℕ) → vector F.field F.value left.now (n + j) ≡ F.field.laws.nought)) }
-    ensures none { IfOk result (λ answer. answer ≡ None → ((j : ℕ) → vector F.field F.value left.now (n + j) ≡ F.field.laws.nought) → ⊥) }
+    ensures front { IfOk result (λ answer. IfSome answer (λ x. (j : ℕ) → j < n → vector F.field.laws F.value x j ≡ F.field.laws.neg (vector F.field.laws F.value left.now j))) }
+    ensures zero { IfOk result (λ answer. IfSome answer (λ _. (j : ℕ) → vector F.field.laws F.value left.now (n + j) ≡ F.field.laws.nought)) }
+    ensures none { IfOk result (λ answer. answer ≡ None → ((j : ℕ) → vector F.field.laws F.value left.now (n + j) ≡ F.field.laws.nought) → ⊥) }
 {
     if is_zero(&left[n..]) {
         let x = negated(alloc, &left[..n])?;
@@ -102,21 +104,30 @@ fn answer_of<F: Field>(alloc: Global, left: &[F], n: usize) -> Result<Option<Row
     }
 }
 
-// The form of the joined rows: each row with its unit vector in front.
-fn joined_form<F: Field>(alloc: Global, rows: &Matrix<F>) -> Result<Echelon<F>, LinError>
+// The form of the joined rows: each row with its unit vector in front. The blank is for a counter of
+// its own.
+fn joined_form<F: Field, L: Ledger>(
+    alloc: Global,
+    rows: &Matrix<F>,
+    blank: Blank,
+) -> Result<Echelon<F>, LinError>
+    requires name { blank.name ≡ L.name }
+    requires parts { blank.parts ≡ L.parts }
+    requires some { 0 < blank.parts }
     ensures width { IfOk result (λ form. form.width ≡ rows.now.rows + rows.now.cols) }
     ensures whole { IfOk result (λ form. form.whole ≡ true) }
-    ensures form { IfOk result (λ form. IsEchelon F.field F.value form) }
-    ensures span { IfOk result (λ form. AreSame (IsSpanned F.field F.value form) (IsInSpan F.field.laws (joined_rows F.field.laws rows.now.rows (entry_of F.field F.value rows.now) rows.now.rows))) }
-    ensures wide { (t : ℕ → Value F.field) → (result ≡ Err lin_error.Wide) → IsWideSolve F.field rows.now.rows (entry_of F.field F.value rows.now) t }
+    ensures form { IfOk result (λ form. IsEchelon F.field.laws F.value form) }
+    ensures span { IfOk result (λ form. AreSame (IsSpanned F.field.laws F.value form) (IsInSpan F.field.laws (joined_rows F.field.laws rows.now.rows (entry_of F.field.laws F.value rows.now) rows.now.rows))) }
+    ensures wide { (t : ℕ → Value F.field) → (result ≡ Err lin_error.Wide) → IsWideSolve F.field rows.now.rows (entry_of F.field.laws F.value rows.now) t }
 {
     let n = rows.rows();
     let width = n + rows.cols();
     let mut form = Echelon::new(alloc, width);
     form.reserve(n)?;
     let mut row = zeros(alloc, width)?;
+    let mut steps = Steps::new(blank);
     for i in 0..n {
-        match insert_joined(&mut form, &mut row, rows, i) {
+        match insert_joined::<F, L>(&mut form, &mut row, rows, i, &mut steps) {
             Ok(()) => {}
             Err(error) => return Err(error),
         }
@@ -125,11 +136,12 @@ fn joined_form<F: Field>(alloc: Global, rows: &Matrix<F>) -> Result<Echelon<F>, 
 }
 
 // Inserts row i with its unit vector in front. The lent row is only room for it.
-fn insert_joined<F: Field>(
+fn insert_joined<F: Field, L: Ledger>(
     form: &mut Echelon<F>,
     row: &mut [F],
     rows: &Matrix<F>,
     i: usize,
+    steps: &mut Steps<L>,
 ) -> Result<(), LinError>
     requires place { i < rows.now.rows }
     requires room { length row.old ≡ rows.now.rows + rows.now.cols }
@@ -137,12 +149,12 @@ fn insert_joined<F: Field>(
     requires whole { form.old.whole ≡ true }
     ensures width { form.new.width ≡ form.old.width }
     ensures whole { OnOk result (form.new.whole ≡ true) }
-    ensures form { IsEchelon F.field F.value form.new }
-    ensures span { OnOk result (AreSame (IsSpanned F.field F.value form.new) (IsInSpan F.field.laws ((0, joined rows.now.rows (unit_vector F.field.laws i) (entry_of F.field F.value rows.now i)) ∷ exact_rows F.field F.value form.old.rows))) }
-    ensures wide { (result ≡ Err lin_error.Wide) → IsWideInsert F.field (exact_rows F.field F.value form.old.rows) (joined rows.now.rows (unit_vector F.field.laws i) (entry_of F.field F.value rows.now i)) }
+    ensures form { IsEchelon F.field.laws F.value form.new }
+    ensures span { OnOk result (AreSame (IsSpanned F.field.laws F.value form.new) (IsInSpan F.field.laws (joined rows.now.rows (unit_vector F.field.laws i) (entry_of F.field.laws F.value rows.now i) ∷ row_vectors (exact_rows F.field.laws F.value form.old.rows)))) }
+    ensures wide { (result ≡ Err lin_error.Wide) → IsWideInsert F.field (exact_rows F.field.laws F.value form.old.rows) (joined rows.now.rows (unit_vector F.field.laws i) (entry_of F.field.laws F.value rows.now i)) }
 {
     fill_joined(row, rows, i);
-    match form.insert(row) {
+    match form.insert(row, steps) {
         Ok(_) => Ok(()),
         Err(error) => Err(error),
     }
@@ -152,7 +164,7 @@ fn insert_joined<F: Field>(
 fn fill_joined<F: Field>(row: &mut [F], rows: &Matrix<F>, i: usize)
     requires place { i < rows.now.rows }
     requires width { length row.old ≡ rows.now.rows + rows.now.cols }
-    ensures { vector F.field F.value row.new ≡ joined rows.now.rows (unit_vector F.field.laws i) (entry_of F.field F.value rows.now i) }
+    ensures { vector F.field.laws F.value row.new ≡ joined rows.now.rows (unit_vector F.field.laws i) (entry_of F.field.laws F.value rows.now i) }
 {
     for p in 0..row.len() {
         row[p] = joined_entry(rows, i, p);
@@ -163,7 +175,7 @@ fn fill_joined<F: Field>(row: &mut [F], rows: &Matrix<F>, i: usize)
 fn joined_entry<F: Field>(rows: &Matrix<F>, i: usize, p: usize) -> F
     requires place { i < rows.now.rows }
     requires column { p < rows.now.rows + rows.now.cols }
-    ensures { F.value result ≡ joined rows.now.rows (unit_vector F.field.laws i) (entry_of F.field F.value rows.now i) p }
+    ensures { F.value result ≡ joined rows.now.rows (unit_vector F.field.laws i) (entry_of F.field.laws F.value rows.now i) p }
 {
     let n = rows.rows();
     if p < n {
@@ -175,8 +187,8 @@ fn joined_entry<F: Field>(rows: &Matrix<F>, i: usize, p: usize) -> F
 
 // Whether each entry is 0.
 fn is_zero<F: Field>(row: &[F]) -> bool
-    ensures zero { (result ≡ true) → (j : ℕ) → vector F.field F.value row.now j ≡ F.field.laws.nought }
-    ensures other { ((j : ℕ) → vector F.field F.value row.now j ≡ F.field.laws.nought) → result ≡ true }
+    ensures zero { (result ≡ true) → (j : ℕ) → vector F.field.laws F.value row.now j ≡ F.field.laws.nought }
+    ensures other { ((j : ℕ) → vector F.field.laws F.value row.now j ≡ F.field.laws.nought) → result ≡ true }
 {
     for x in row {
         if !x.is_zero() {
@@ -189,7 +201,7 @@ fn is_zero<F: Field>(row: &[F]) -> bool
 // The entries with changed signs.
 fn negated<F: Field>(alloc: Global, row: &[F]) -> Result<Vec<F>, NoMemory>
     ensures len { IfOk result (λ v. length v.items ≡ length row.now) }
-    ensures entries { IfOk result (λ v. (j : ℕ) → vector F.field F.value v.items j ≡ F.field.laws.neg (vector F.field F.value row.now j)) }
+    ensures entries { IfOk result (λ v. (j : ℕ) → vector F.field.laws F.value v.items j ≡ F.field.laws.neg (vector F.field.laws F.value row.now j)) }
 {
     let mut entries = Vec::with_capacity(alloc, row.len())?;
     for x in row {

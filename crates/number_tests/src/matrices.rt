@@ -1,8 +1,8 @@
 // Products and solutions over K24, worked out by hand.
-ghost use Rattle.std.specs.Prelude.{◌≡◌, length};
+ghost use Rattle.std.specs.Prelude.{◌≡◌, true, length};
 
 use crate::rows::two;
-use cyclo24::{Field, K24};
+use cyclo24::{Field, K24, Wide};
 use iso_text::NoMemory;
 use lin_alg::{LinError, Matrix, Row, are_independent, solve};
 use std::alloc::Global;
@@ -55,6 +55,35 @@ fn products(rt: HostRuntime) {
     let a = [[1, 1], [0, 1]];
     assert!(rt; is_product(rt.alloc(), a, a, [[1, 2], [0, 1]]) == Ok(true));
     assert!(rt; is_product(rt.alloc(), a, [[0, 2], [3, 0]], [[3, 2], [3, 0]]) == Ok(true));
+}
+
+// Whether the matrix is square, and the other one has its shape.
+fn have_one_shape(a: &Matrix<K24>, b: &Matrix<K24>) -> bool
+    ensures { result ≡ true → (a.now.rows ≡ a.now.cols) × (b.now.rows ≡ a.now.rows) × (b.now.cols ≡ a.now.rows) }
+{
+    a.rows() == a.cols() && b.rows() == a.rows() && b.cols() == a.rows()
+}
+
+// The trace, whether the square matrix is the unit matrix, and whether it is twice the other one.
+fn compared(a: &Matrix<K24>, b: &Matrix<K24>) -> Result<Option<(K24, bool, bool)>, Wide> {
+    if !have_one_shape(a, b) {
+        return Ok(None);
+    }
+    let trace = a.trace()?;
+    let twice = a.is_multiple(K24::ratio(2, 1), b)?;
+    Ok(Some((trace, a.is_unit(), twice)))
+}
+
+#[test]
+fn traces_and_comparisons(rt: HostRuntime) -> Result<(), Fail> {
+    let alloc = rt.alloc();
+    let unit = square(alloc, [[1, 0], [0, 1]])?;
+    let double = square(alloc, [[2, 0], [0, 2]])?;
+    let other = square(alloc, [[2, 0], [1, 2]])?;
+    assert!(rt; compared(&unit, &unit)? == Some((K24::ratio(2, 1), true, false)));
+    assert!(rt; compared(&double, &unit)? == Some((K24::ratio(4, 1), false, true)));
+    assert!(rt; compared(&other, &unit)? == Some((K24::ratio(4, 1), false, false)));
+    Ok(())
 }
 
 // Solves where the rows are independent; `None` where they aren't, too.

@@ -1,7 +1,11 @@
 // Rows of whole numbers as values, and forms of them.
+ghost use Rattle.std.specs.Prelude.{◌≡◌, ◌<◌};
+
 use cyclo24::{Field, K24};
-use lin_alg::{Echelon, Grew, LinError};
+use lin_alg::{Echelon, Grew, LinError, Steps};
 use std::alloc::Global;
+use std::marker::Brand;
+use std::sync::ledger::{Blank, Ledger};
 
 pub fn two(row: [i64; 2]) -> [K24; 2] {
     [K24::ratio(row[0], 1), K24::ratio(row[1], 1)]
@@ -17,10 +21,24 @@ pub fn three(row: [i64; 3]) -> [K24; 3] {
 
 /// Inserts a row of the form's width.
 pub fn put<F: Field>(form: &mut Echelon<F>, row: &mut [F]) -> Result<Grew, LinError> {
+    put_by::<F, Brand>(form, row, Blank::new(1))
+}
+
+// Inserts a row with a counter of its own.
+fn put_by<F: Field, L: Ledger>(
+    form: &mut Echelon<F>,
+    row: &mut [F],
+    blank: Blank,
+) -> Result<Grew, LinError>
+    requires name { blank.name ≡ L.name }
+    requires parts { blank.parts ≡ L.parts }
+    requires some { 0 < blank.parts }
+{
     if !form.is_whole() || row.len() != form.width() {
         return Err(LinError::Wide);
     }
-    form.insert(row)
+    let mut steps = Steps::<L>::new(blank);
+    form.insert(row, &mut steps)
 }
 
 /// The form of rows of three whole numbers.

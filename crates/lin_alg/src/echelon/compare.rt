@@ -13,26 +13,28 @@ use std::hash::{Hash, Hasher};
 fn cmp_lines<F: Field>(a: &[(usize, Vec<F>)], b: &[(usize, Vec<F>)]) -> Ordering
     ensures { result ≡ lines_cmp F.Ord.cmp (map (λ r. (r.0, r.1.items)) a.now) (map (λ r. (r.0, r.1.items)) b.now) }
 {
-    match (a.split_first(), b.split_first()) {
-        (None, None) => Ordering::Equal,
-        (None, Some(_)) => Ordering::Less,
-        (Some(_), None) => Ordering::Greater,
-        (Some((x, xs)), Some((y, ys))) => match x.1.cmp(&y.1) {
-            Ordering::Equal => cmp_lines(xs, ys),
-            order => order,
-        },
+    for i in 0..a.len().min(b.len()) {
+        match a[i].1.cmp(&b[i].1) {
+            Ordering::Equal => {}
+            order => return order,
+        }
     }
+    a.len().cmp(&b.len())
 }
 
 // Whether the rows have the same entries.
 fn eq_lines<F: Field>(a: &[(usize, Vec<F>)], b: &[(usize, Vec<F>)]) -> bool
     ensures { result ≡ lines_eq F.PartialEq.eq (map (λ r. (r.0, r.1.items)) a.now) (map (λ r. (r.0, r.1.items)) b.now) }
 {
-    match (a.split_first(), b.split_first()) {
-        (None, None) => true,
-        (Some((x, xs)), Some((y, ys))) => x.1 == y.1 && eq_lines(xs, ys),
-        _ => false,
+    if a.len() != b.len() {
+        return false;
     }
+    for i in 0..a.len() {
+        if a[i].1 != b[i].1 {
+            return false;
+        }
+    }
+    true
 }
 
 // Feeds the entries of the rows.

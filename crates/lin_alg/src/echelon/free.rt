@@ -23,9 +23,9 @@ impl<F: Field> Echelon<F> {
         ensures rows { IfOk result (λ m. m.rows ≡ length (columns_of self.now.width self.now.rows)) }
         ensures count { IfOk result (λ m. m.rows + length self.now.rows ≡ self.now.width) }
         ensures cols { IfOk result (λ m. m.cols ≡ self.now.width) }
-        ensures vectors { IfOk result (λ m. (i : ℕ) → i < m.rows → (j : ℕ) → entry_of F.field F.value m i j ≡ free_vector F.field.laws (exact_rows F.field F.value self.now.rows) (slice_index (columns_of self.now.width self.now.rows) i) j) }
-        ensures units { IfOk result (λ m. (i k : ℕ) → i < m.rows → k < m.rows → entry_of F.field F.value m i (slice_index (columns_of self.now.width self.now.rows) k) ≡ unit_vector F.field.laws (slice_index (columns_of self.now.width self.now.rows) i) (slice_index (columns_of self.now.width self.now.rows) k)) }
-        ensures vanishes { IfOk result (λ m. (i : ℕ) → i < m.rows → IsSolution F.field F.value self.now (entry_of F.field F.value m i)) }
+        ensures vectors { IfOk result (λ m. (i : ℕ) → i < m.rows → (j : ℕ) → entry_of F.field.laws F.value m i j ≡ free_vector F.field.laws (exact_rows F.field.laws F.value self.now.rows) (slice_index (columns_of self.now.width self.now.rows) i) j) }
+        ensures units { IfOk result (λ m. (i k : ℕ) → i < m.rows → k < m.rows → entry_of F.field.laws F.value m i (slice_index (columns_of self.now.width self.now.rows) k) ≡ unit_vector F.field.laws (slice_index (columns_of self.now.width self.now.rows) i) (slice_index (columns_of self.now.width self.now.rows) k)) }
+        ensures vanishes { IfOk result (λ m. (i : ℕ) → i < m.rows → IsSolution F.field.laws F.value self.now (entry_of F.field.laws F.value m i)) }
     {
         let columns = free_columns(alloc, &self.lines, self.width)?;
         let mut basis = Matrix::new(alloc, columns.len(), self.width)?;
@@ -38,13 +38,13 @@ impl<F: Field> Echelon<F> {
 fn fill_basis<F: Field>(basis: &mut Matrix<F>, columns: &[usize], lines: &[(usize, Vec<F>)])
     requires rows { basis.old.rows ≡ length columns.now }
     requires shape { HaveWidth basis.old.cols (map (λ r. (r.0, r.1.items)) lines.now) }
-    requires form { IsReduced F.field.laws (exact_rows F.field F.value (map (λ r. (r.0, r.1.items)) lines.now)) }
+    requires form { IsReduced F.field.laws (exact_rows F.field.laws F.value (map (λ r. (r.0, r.1.items)) lines.now)) }
     requires inside { (i : ℕ) → i < length columns.now → slice_index columns.now i < basis.old.cols }
     requires free { (i : ℕ) → i < length columns.now → is_pivot (slice_index columns.now i) (map (λ r. (r.0, r.1.items)) lines.now) ≡ false }
-    requires zero { (i j : ℕ) → entry_of F.field F.value basis.old i j ≡ F.field.laws.nought }
+    requires zero { (i j : ℕ) → entry_of F.field.laws F.value basis.old i j ≡ F.field.laws.nought }
     ensures rows { basis.new.rows ≡ basis.old.rows }
     ensures cols { basis.new.cols ≡ basis.old.cols }
-    ensures vectors { (i : ℕ) → i < length columns.now → (j : ℕ) → entry_of F.field F.value basis.new i j ≡ free_vector F.field.laws (exact_rows F.field F.value (map (λ r. (r.0, r.1.items)) lines.now)) (slice_index columns.now i) j }
+    ensures vectors { (i : ℕ) → i < length columns.now → (j : ℕ) → entry_of F.field.laws F.value basis.new i j ≡ free_vector F.field.laws (exact_rows F.field.laws F.value (map (λ r. (r.0, r.1.items)) lines.now)) (slice_index columns.now i) j }
 {
     for i in 0..columns.len() {
         fill_free(basis, i, columns[i], lines);
@@ -88,13 +88,13 @@ fn fill_free<F: Field>(basis: &mut Matrix<F>, i: usize, c: usize, lines: &[(usiz
     requires row { i < basis.old.rows }
     requires column { c < basis.old.cols }
     requires shape { HaveWidth basis.old.cols (map (λ r. (r.0, r.1.items)) lines.now) }
-    requires form { IsReduced F.field.laws (exact_rows F.field F.value (map (λ r. (r.0, r.1.items)) lines.now)) }
+    requires form { IsReduced F.field.laws (exact_rows F.field.laws F.value (map (λ r. (r.0, r.1.items)) lines.now)) }
     requires free { is_pivot c (map (λ r. (r.0, r.1.items)) lines.now) ≡ false }
-    requires zero { (j : ℕ) → entry_of F.field F.value basis.old i j ≡ F.field.laws.nought }
+    requires zero { (j : ℕ) → entry_of F.field.laws F.value basis.old i j ≡ F.field.laws.nought }
     ensures rows { basis.new.rows ≡ basis.old.rows }
     ensures cols { basis.new.cols ≡ basis.old.cols }
-    ensures others { (k j : ℕ) → (k ≡ i → ⊥) → entry_of F.field F.value basis.new k j ≡ entry_of F.field F.value basis.old k j }
-    ensures vector { (j : ℕ) → entry_of F.field F.value basis.new i j ≡ free_vector F.field.laws (exact_rows F.field F.value (map (λ r. (r.0, r.1.items)) lines.now)) c j }
+    ensures others { (k j : ℕ) → (k ≡ i → ⊥) → entry_of F.field.laws F.value basis.new k j ≡ entry_of F.field.laws F.value basis.old k j }
+    ensures vector { (j : ℕ) → entry_of F.field.laws F.value basis.new i j ≡ free_vector F.field.laws (exact_rows F.field.laws F.value (map (λ r. (r.0, r.1.items)) lines.now)) c j }
 {
     basis.set(i, c, F::one());
     for s in (0..lines.len()).rev() {
@@ -109,7 +109,7 @@ fn set_pivot<F: Field>(basis: &mut Matrix<F>, i: usize, c: usize, line: &(usize,
     requires column { c < length line.now.1.items }
     ensures rows { basis.new.rows ≡ basis.old.rows }
     ensures cols { basis.new.cols ≡ basis.old.cols }
-    ensures entries { (k l : ℕ) → entry_of F.field F.value basis.new k l ≡ with_entry i line.now.0 (F.field.laws.neg (vector F.field F.value line.now.1.items c)) (entry_of F.field F.value basis.old) k l }
+    ensures entries { (k l : ℕ) → entry_of F.field.laws F.value basis.new k l ≡ with_entry i line.now.0 (F.field.laws.neg (vector F.field.laws F.value line.now.1.items c)) (entry_of F.field.laws F.value basis.old) k l }
 {
     let x = entry(&line.1, c);
     basis.set(i, line.0, x.neg());

@@ -50,7 +50,7 @@ pub returns-in_err-take_multiple-clause-wide : goal.returns-in_err-take_multiple
 returns-in_err-take_multiple-clause-wide g c =
     let f = g.F.Field.field in
     let v = g.F.Field.value in
-    let u = vector f v c.args.row.now in
+    let u = vector f.laws v c.args.row.now in
     let el = get_or c.loop-i.lines c.loop-i.i c.index-lines-i.result in
     let x : ℕ × List _ = (el.0, el.1.items) in
     let now : List (ℕ × List _) = map (λ r. (r.0, r.1.items)) c.loop-i.lines in
@@ -59,20 +59,20 @@ returns-in_err-take_multiple-clause-wide g c =
     let ls : c.loop-i.i < length start = rw length-map c.loop-i-test.true in
     let e : x ≡ get_or now c.loop-i.i x = sym (get_or-map (λ r. (r.0, r.1.items)) c.loop-i.lines c.loop-i.i c.index-lines-i.result x li) in
     let es = clearing-at f v c.args.p u (length c.args.row.now) start now c.loop-i.i x e c.loop-i.invariant in
-    let front : vector f v (take (c.args.p + 1) c.args.row.now) ≡ u = vector-front f v c.args.p c.args.row.now c.requires.ended in
-    let taken : IsWideLess f (vector f v x.1) (vector f v x.1 c.args.p) (vector f v (take (c.args.p + 1) c.args.row.now)) =
+    let front : vector f.laws v (take (c.args.p + 1) c.args.row.now) ≡ u = vector-front f v c.args.p c.args.row.now c.requires.ended in
+    let taken : IsWideLess f (vector f.laws v x.1) (vector f.laws v x.1 c.args.p) (vector f.laws v (take (c.args.p + 1) c.args.row.now)) =
     rw c.deref_mut.ensures.value at c.in_err-take_multiple.ensures.wide in
-    let h : IsWideLess f (vector f v x.1) (vector f v x.1 c.args.p) u = subst (λ (b : ℕ → _). IsWideLess f (vector f v x.1) (vector f v x.1 c.args.p) b) front taken in
+    let h : IsWideLess f (vector f.laws v x.1) (vector f.laws v x.1 c.args.p) u = subst (λ (b : ℕ → _). IsWideLess f (vector f.laws v x.1) (vector f.laws v x.1 c.args.p) b) front taken in
     let zc : f.laws.is_nought (v c.entry.result) ≡ false = cc (c.is_zero.ensures, c.if-not-is_zero.true) in
-    let z : f.laws.is_nought (vector f v x.1 c.args.p) ≡ false = rw (c.deref.ensures.value) at (sym (ap f.laws.is_nought c.entry.ensures) ∙ zc) in
-    let w : IsWideClear f c.args.p u (exact_rows f v start) = wide_clear-at f v c.args.p u start c.loop-i.i x ls es z h in
+    let z : f.laws.is_nought (vector f.laws v x.1 c.args.p) ≡ false = rw (c.deref.ensures.value) at (sym (ap f.laws.is_nought c.entry.ensures) ∙ zc) in
+    let w : IsWideClear f c.args.p u (exact_rows f.laws v start) = wide_clear-at f v c.args.p u start c.loop-i.i x ls es z h in
     search rules
 
 pub loop-i-preserved : goal.loop-i-preserved
 loop-i-preserved g c =
     let f = g.F.Field.field in
     let v = g.F.Field.value in
-    let u = vector f v c.args.row.now in
+    let u = vector f.laws v c.args.row.now in
     let w0 = length c.args.row.now in
     let el = get_or c.loop-i.lines c.loop-i.i c.index-lines-i.result in
     let x : ℕ × List _ = (el.0, el.1.items) in
@@ -87,14 +87,14 @@ loop-i-preserved g c =
       | then-not-is_zero+in_ok-take_multiple w ↦
           let y : ℕ × List _ = (el.0, w.take_multiple.new.row) in
           let n : length w.take_multiple.new.row ≡ w0 = w.take_multiple.auto.row ∙ (rw w.deref_mut.ensures.value k.1) in
-          let taken : vector f v y.1 ≡ less f.laws (vector f v x.1) (vector f v x.1 c.args.p) (vector f v (take (c.args.p + 1) c.args.row.now)) =
+          let taken : vector f.laws v y.1 ≡ less f.laws (vector f.laws v x.1) (vector f.laws v x.1 c.args.p) (vector f.laws v (take (c.args.p + 1) c.args.row.now)) =
           rw w.deref_mut.ensures.value at w.in_ok-take_multiple.ensures.exact in
-          let h : vector f v y.1 ≡ less f.laws (vector f v x.1) (vector f v x.1 c.args.p) u =
-          taken ∙ ap (less f.laws (vector f v x.1) (vector f v x.1 c.args.p)) (vector-front f v c.args.p c.args.row.now c.requires.ended) in
+          let h : vector f.laws v y.1 ≡ less f.laws (vector f.laws v x.1) (vector f.laws v x.1 c.args.p) u =
+          taken ∙ ap (less f.laws (vector f.laws v x.1) (vector f.laws v x.1 c.args.p)) (vector-front f v c.args.p c.args.row.now c.requires.ended) in
           let s = clearing-step f v c.args.p u w0 start now c.loop-i.i x y l ll e refl n k.0 h c.loop-i.invariant in
           rw (w.lines-is, seen-set c.loop-i.lines c.loop-i.i el w.take_multiple.new.row (n ∙ sym k.1)) s
       | else-not-is_zero w ↦
-          let z : f.laws.is_nought (vector f v x.1 c.args.p) ≡ true =
+          let z : f.laws.is_nought (vector f.laws v x.1 c.args.p) ≡ true =
           rw (c.deref.ensures.value) at (sym (ap f.laws.is_nought c.entry.ensures) ∙ sym c.is_zero.ensures ∙ w.if-not-is_zero.false) in
           rw (w.lines-is, set-get_or c.loop-i.lines c.loop-i.i c.index-lines-i.result) (clearing-kept f v c.args.p u w0 start now c.loop-i.i x l ll e z c.loop-i.invariant)
     ]
@@ -108,4 +108,4 @@ returns-clause-exact g c =
     let e : length c.loop-i.lines ≤ c.loop-i.i = omega arith in
     let l : length now ≤ c.loop-i.i = rw length-map e in
     let ll : length now ≡ length start = rw (length-map, length-map) c.loop-i.auto.lines in
-    clearing-all f v c.args.p (vector f v c.args.row.now) (length c.args.row.now) start now c.loop-i.i l ll c.loop-i.invariant
+    clearing-all f v c.args.p (vector f.laws v c.args.row.now) (length c.args.row.now) start now c.loop-i.i l ll c.loop-i.invariant

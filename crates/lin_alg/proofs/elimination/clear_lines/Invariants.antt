@@ -7,4 +7,4 @@ abbrev pub invariant-loop-i : goal.invariant-loop-i
 invariant-loop-i g l =
     let f = g.F.Field.field in
     let v = g.F.Field.value in
-    IsClearing f v l.p (vector f v l.row) (length l.row) (map (λ r. (r.0, r.1.items)) l.fn.lines) (map (λ r. (r.0, r.1.items)) l.lines) l.i
+    IsClearing f v l.p (vector f.laws v l.row) (length l.row) (map (λ r. (r.0, r.1.items)) l.fn.lines) (map (λ r. (r.0, r.1.items)) l.lines) l.i

@@ -11,7 +11,7 @@ pub clear_lines-requires-clause-ended : goal.clear_lines-requires-clause-ended
 clear_lines-requires-clause-ended g c j l =
     let f = g.F.Field.field in
     let v = g.F.Field.value in
-    ap (λ z. z j) c.in_ok-scale-in-Some.ensures.exact ∙ scaled-behind f c.in-Some.p (vector f v c.reduce_row.new.row) j (c.in-Some.ensures.1.1 j l)
+    ap (λ z. z j) c.in_ok-scale-in-Some.ensures.exact ∙ scaled-behind f c.in-Some.p (vector f.laws v c.reduce_row.new.row) j (c.in-Some.ensures.1.1 j l)
 
 pub returns-in_ok-clear_lines-in-Some-clause-shape : goal.returns-in_ok-clear_lines-in-Some-clause-shape
 returns-in_ok-clear_lines-in-Some-clause-shape g c =
@@ -25,8 +25,8 @@ returns-in_err-clear_lines-in-Some-clause-wide g c =
     let f = g.F.Field.field in
     let v = g.F.Field.value in
     let old : List (ℕ × List _) = map (λ r. (r.0, r.1.items)) c.args.lines.now.items in
-    let e : vector f v c.reduce_row.new.row ≡ reduce f.laws (exact_rows f v old) (vector f v c.args.row.now) = rw (c.deref.ensures.value) at c.in_ok-reduce_row.ensures.exact in
-    let h : IsWideClear f c.in-Some.p (vector f v c.scale.new.row) (exact_rows f v old) = rw (c.deref_mut.ensures.value) at c.in_err-clear_lines-in-Some.ensures.wide in
-    let w : IsWideInsert f (exact_rows f v old) (vector f v c.args.row.now) =
-    wide_insert f (exact_rows f v old) (vector f v c.args.row.now) (vector f v c.reduce_row.new.row) (vector f v c.scale.new.row) c.in-Some.p e c.in_ok-scale-in-Some.ensures.exact c.in-Some.ensures.1 h in
+    let e : vector f.laws v c.reduce_row.new.row ≡ reduce f.laws (exact_rows f.laws v old) (vector f.laws v c.args.row.now) = rw (c.deref.ensures.value) at c.in_ok-reduce_row.ensures.exact in
+    let h : IsWideClear f c.in-Some.p (vector f.laws v c.scale.new.row) (exact_rows f.laws v old) = rw (c.deref_mut.ensures.value) at c.in_err-clear_lines-in-Some.ensures.wide in
+    let w : IsWideInsert f (exact_rows f.laws v old) (vector f.laws v c.args.row.now) =
+    wide_insert f (exact_rows f.laws v old) (vector f.laws v c.args.row.now) (vector f.laws v c.reduce_row.new.row) (vector f.laws v c.scale.new.row) c.in-Some.p e c.in_ok-scale-in-Some.ensures.exact c.in-Some.ensures.1 h in
     search rules

@@ -46,18 +46,18 @@ returns-in_err-take_multiple-clause-wide g c =
     let f = g.F.Field.field in
     let v = g.F.Field.value in
     let all : List (ℕ × List _) = map (λ r. (r.0, r.1.items)) c.args.lines.now in
-    let start = vector f v c.args.row.now in
-    let row = vector f v c.loop-line.row in
+    let start = vector f.laws v c.args.row.now in
+    let row = vector f.laws v c.loop-line.row in
     let x : ℕ × List _ = (c.line-item.result.0, c.line-item.result.1.items) in
     let l : c.loop-line.line-index < length all = rw length-map c.loop-line-test.true in
     let e : x ≡ get_or all c.loop-line.line-index x =
     item-at (λ r. (r.0, r.1.items)) c.args.lines.now c.loop-line.line-index c.line-item.result c.loop-line-test.true c.line-item.is in
-    let front : vector f v (take (x.0 + 1) x.1) ≡ vector f v x.1 = vector-front f v x.0 x.1 (ended-at f v all c.loop-line.line-index x c.requires.ended l e) in
-    let taken : IsWideLess f row (row x.0) (vector f v (take (x.0 + 1) x.1)) =
+    let front : vector f.laws v (take (x.0 + 1) x.1) ≡ vector f.laws v x.1 = vector-front f v x.0 x.1 (ended-at f v all c.loop-line.line-index x c.requires.ended l e) in
+    let taken : IsWideLess f row (row x.0) (vector f.laws v (take (x.0 + 1) x.1)) =
     rw c.deref.ensures.value at c.in_err-take_multiple.ensures.wide in
-    let h : IsWideLess f row (row x.0) (vector f v x.1) = subst (λ (b : ℕ → _). IsWideLess f row (row x.0) b) front taken in
+    let h : IsWideLess f row (row x.0) (vector f.laws v x.1) = subst (λ (b : ℕ → _). IsWideLess f row (row x.0) b) front taken in
     let z : f.laws.is_nought (row x.0) ≡ false = cc (c.entry.ensures, c.is_zero.ensures, c.if-not-is_zero.true) in
-    let w : IsWideReduce f (exact_rows f v all) start = reducing-wide f v all start c.loop-line.line-index row x l e c.loop-line.invariant z h in
+    let w : IsWideReduce f (exact_rows f.laws v all) start = reducing-wide f v all start c.loop-line.line-index row x l e c.loop-line.invariant z h in
     search rules
 
 pub loop-line-preserved : goal.loop-line-preserved
@@ -65,19 +65,19 @@ loop-line-preserved g c =
     let f = g.F.Field.field in
     let v = g.F.Field.value in
     let all : List (ℕ × List _) = map (λ r. (r.0, r.1.items)) c.args.lines.now in
-    let start = vector f v c.args.row.now in
-    let row = vector f v c.loop-line.row in
+    let start = vector f.laws v c.args.row.now in
+    let row = vector f.laws v c.loop-line.row in
     let x : ℕ × List _ = (c.line-item.result.0, c.line-item.result.1.items) in
     let l : c.loop-line.line-index < length all = rw length-map c.loop-line-test.true in
     let e : x ≡ get_or all c.loop-line.line-index x =
     item-at (λ r. (r.0, r.1.items)) c.args.lines.now c.loop-line.line-index c.line-item.result c.loop-line-test.true c.line-item.is in
-    let front : vector f v (take (x.0 + 1) x.1) ≡ vector f v x.1 = vector-front f v x.0 x.1 (ended-at f v all c.loop-line.line-index x c.requires.ended l e) in
+    let front : vector f.laws v (take (x.0 + 1) x.1) ≡ vector f.laws v x.1 = vector-front f v x.0 x.1 (ended-at f v all c.loop-line.line-index x c.requires.ended l e) in
     elim c.if-not-is_zero.branch [
       | then-not-is_zero+in_ok-take_multiple w ↦
-          let taken : vector f v w.take_multiple.new.row ≡ less f.laws row (row x.0) (vector f v (take (x.0 + 1) x.1)) =
+          let taken : vector f.laws v w.take_multiple.new.row ≡ less f.laws row (row x.0) (vector f.laws v (take (x.0 + 1) x.1)) =
           rw w.deref.ensures.value at w.in_ok-take_multiple.ensures.exact in
-          let h : vector f v c.if-not-is_zero.row ≡ less f.laws row (row x.0) (vector f v x.1) =
-          ap (vector f v) w.row-is ∙ taken ∙ ap (less f.laws row (row x.0)) front in
+          let h : vector f.laws v c.if-not-is_zero.row ≡ less f.laws row (row x.0) (vector f.laws v x.1) =
+          ap (vector f.laws v) w.row-is ∙ taken ∙ ap (less f.laws row (row x.0)) front in
           rw h (reducing-step f v all start c.loop-line.line-index row x l e c.loop-line.invariant)
       | else-not-is_zero w ↦
           let z : f.laws.is_nought (row x.0) ≡ true = cc (c.entry.ensures, c.is_zero.ensures, w.if-not-is_zero.false) in
@@ -89,4 +89,4 @@ returns-clause-exact g c =
     let f = g.F.Field.field in
     let v = g.F.Field.value in
     let l : length (map (λ r. (r.0, r.1.items)) c.args.lines.now) ≤ c.loop-line.line-index = rw length-map c.loop-line-test.false in
-    reducing-all f v _ (vector f v c.args.row.now) c.loop-line.line-index (vector f v c.loop-line.row) l c.loop-line.invariant
+    reducing-all f v _ (vector f.laws v c.args.row.now) c.loop-line.line-index (vector f.laws v c.loop-line.row) l c.loop-line.invariant

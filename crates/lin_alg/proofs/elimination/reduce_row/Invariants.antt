@@ -7,4 +7,4 @@ abbrev pub invariant-loop-line : goal.invariant-loop-line
 invariant-loop-line g l =
     let f = g.F.Field.field in
     let v = g.F.Field.value in
-    IsReducing f v (map (λ r. (r.0, r.1.items)) l.lines) (vector f v l.fn.row) l.line-index (vector f v l.row)
+    IsReducing f v (map (λ r. (r.0, r.1.items)) l.lines) (vector f.laws v l.fn.row) l.line-index (vector f.laws v l.row)

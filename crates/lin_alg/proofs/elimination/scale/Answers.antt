@@ -11,7 +11,7 @@ pub loop-j-preserved : goal.loop-j-preserved
 loop-j-preserved g c =
     let f = g.F.Field.field in
     let v = g.F.Field.value in
-    let start = vector f v c.args.row.now in
+    let start = vector f.laws v c.args.row.now in
     let target = scaled f.laws c.args.p start in
     let row = c.loop-j.row in
     let j = c.loop-j.j in
@@ -35,7 +35,7 @@ pub returns-clause-exact : goal.returns-clause-exact
 returns-clause-exact g c =
     let f = g.F.Field.field in
     let v = g.F.Field.value in
-    let start = vector f v c.args.row.now in
+    let start = vector f.laws v c.args.row.now in
     written-front f v (scaled f.laws c.args.p start) start c.loop-j.row c.loop-j.j
     (λ k h.
     let behind : c.args.p < k = omega arith in

@@ -11,8 +11,8 @@ loop-j-preserved g c =
     let v = g.F.Field.value in
     let row = c.loop-j.row in
     let j = c.loop-j.j in
-    let start = vector f v c.args.row.now in
-    let b = vector f v c.args.b.now in
+    let start = vector f.laws v c.args.row.now in
+    let b = vector f.laws v c.args.b.now in
     let k = v c.entry-c.result in
     let t : IsTaken f v start k b row j = c.loop-j.invariant in
     let j_row : j < length row = omega arith in
@@ -34,6 +34,6 @@ pub returns-clause-exact : goal.returns-clause-exact
 returns-clause-exact g c =
     let f = g.F.Field.field in
     let v = g.F.Field.value in
-    let start = vector f v c.args.row.now in
+    let start = vector f.laws v c.args.row.now in
     taken-all f v start (v c.entry-c.result) c.args.b.now c.loop-j.row c.loop-j.j c.loop-j-test.false c.loop-j.invariant
-    ∙ ap (λ k. less f.laws start k (vector f v c.args.b.now)) c.entry-c.ensures
+    ∙ ap (λ k. less f.laws start k (vector f.laws v c.args.b.now)) c.entry-c.ensures

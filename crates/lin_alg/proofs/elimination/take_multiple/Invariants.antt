@@ -6,4 +6,4 @@ abbrev pub invariant-loop-j : goal.invariant-loop-j
 invariant-loop-j g l =
     let f = g.F.Field.field in
     let v = g.F.Field.value in
-    IsTaken f v (vector f v l.fn.row) (v l.c) (vector f v l.b) l.row l.j
+    IsTaken f v (vector f.laws v l.fn.row) (v l.c) (vector f.laws v l.b) l.row l.j

@@ -7,4 +7,4 @@ abbrev pub invariant-loop-j : goal.invariant-loop-j
 invariant-loop-j g l =
     let f = g.F.Field.field in
     let v = g.F.Field.value in
-    IsWritten f v (entry f v l.rows l.i) (vector f v l.fn.row) l.row l.j
+    IsWritten f v (entry f.laws v l.rows l.i) (vector f.laws v l.fn.row) l.row l.j

@@ -1,5 +1,5 @@
 use Rattle.std.proofs.Common.{◌≡◌, ◌↔◌, ℕ, ◌∷◌, subst}
-use Rattle.lin_alg.specs.Spans.{IsInSpan, AreSame}
+use Rattle.lin_alg.specs.Spans.{row_vectors, IsInSpan, AreSame}
 use Rattle.lin_alg.specs.Rows.{exact_rows}
 use Rattle.lin_alg.specs.Insertion.{IsWideInsert}
 use Rattle.lin_alg.specs.declared.echelon.Grew.TheVariants.{Yes}
@@ -10,16 +10,16 @@ pub returns-in-Ok-clause-span : goal.returns-in-Ok-clause-span
 returns-in-Ok-clause-span g c =
     let f = g.F.Field.field in
     let v = g.F.Field.value in
-    subst (λ (x : ℕ → _). AreSame (IsInSpan f.laws (exact_rows f v c.insert.new.self.rows)) (IsInSpan f.laws ((0, x) ∷ exact_rows f v c.args.form.now.rows))) c.fill_row.ensures c.in-Ok.ensures.span
+    subst (λ (x : ℕ → _). AreSame (IsInSpan f.laws (row_vectors (exact_rows f.laws v c.insert.new.self.rows))) (IsInSpan f.laws (x ∷ row_vectors (exact_rows f.laws v c.args.form.now.rows)))) c.fill_row.ensures c.in-Ok.ensures.span
 
 pub returns-in-Ok-clause-grew : goal.returns-in-Ok-clause-grew
 returns-in-Ok-clause-grew g c =
     let f = g.F.Field.field in
     let v = g.F.Field.value in
-    subst (λ (x : ℕ → _). (c.in-Ok.answer ≡ Yes) ↔ (IsInSpan f.laws (exact_rows f v c.args.form.now.rows) x → ⊥)) c.fill_row.ensures c.in-Ok.ensures.grew
+    subst (λ (x : ℕ → _). (c.in-Ok.answer ≡ Yes) ↔ (IsInSpan f.laws (row_vectors (exact_rows f.laws v c.args.form.now.rows)) x → ⊥)) c.fill_row.ensures c.in-Ok.ensures.grew
 
 pub returns-in-Err-clause-wide : goal.returns-in-Err-clause-wide
 returns-in-Err-clause-wide g c e =
     let f = g.F.Field.field in
     let v = g.F.Field.value in
-    subst (λ (x : ℕ → _). IsWideInsert f (exact_rows f v c.args.form.now.rows) x) c.fill_row.ensures (c.in-Err.ensures.wide (same-error _ _ e)).1
+    subst (λ (x : ℕ → _). IsWideInsert f (exact_rows f.laws v c.args.form.now.rows) x) c.fill_row.ensures (c.in-Err.ensures.wide (same-error _ _ e)).1

@@ -9,4 +9,4 @@ abbrev pub invariant-loop-p : goal.invariant-loop-p
 invariant-loop-p g l =
     let f = g.F.Field.field in
     let v = g.F.Field.value in
-    IsWritten f v (λ p. mul f.laws l.a.cols (entry f v l.a) (entry f v l.b) (p / l.b.cols) (p % l.b.cols)) (vector f v l.fn.entries) l.entries l.p
+    IsWritten f v (λ p. mul f.laws l.a.cols (entry f.laws v l.a) (entry f.laws v l.b) (p / l.b.cols) (p % l.b.cols)) (vector f.laws v l.fn.entries) l.entries l.p

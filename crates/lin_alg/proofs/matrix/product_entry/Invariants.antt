@@ -7,4 +7,4 @@ abbrev pub invariant-loop-k : goal.invariant-loop-k
 invariant-loop-k g l =
     let f = g.F.Field.field in
     let v = g.F.Field.value in
-    v l.sum ≡ total f.laws l.k (λ k. f.laws.times (entry f v l.a l.i k) (entry f v l.b k l.j))
+    v l.sum ≡ total f.laws l.k (λ k. f.laws.times (entry f.laws v l.a l.i k) (entry f.laws v l.b k l.j))

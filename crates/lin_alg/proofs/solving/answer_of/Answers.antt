@@ -7,7 +7,7 @@ pub returns-in_ok-x-clause-front : goal.returns-in_ok-x-clause-front
 returns-in_ok-x-clause-front g c j l =
     let f = g.F.Field.field in
     let v = g.F.Field.value in
-    ap (λ z. vector f v z j) c.from_vec.ensures ∙ c.in_ok-x.ensures.entries j ∙ ap f.laws.neg (vector-taken f v c.args.n c.args.left.now _ refl j l)
+    ap (λ z. vector f.laws v z j) c.from_vec.ensures ∙ c.in_ok-x.ensures.entries j ∙ ap f.laws.neg (vector-taken f v c.args.n c.args.left.now _ refl j l)
 
 pub returns-in_ok-x-clause-zero : goal.returns-in_ok-x-clause-zero
 returns-in_ok-x-clause-zero g c j =

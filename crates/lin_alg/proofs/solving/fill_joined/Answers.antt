@@ -14,7 +14,7 @@ loop-p-preserved g c =
     let v = g.F.Field.value in
     let m = c.args.rows.now in
     let l : c.loop-p.p < length c.loop-p.row = omega arith in
-    written-set f v (joined m.rows (unit_vector f.laws c.args.i) (entry f v m c.args.i)) (vector f v c.args.row.now) c.loop-p.row c.loop-p.p c.joined_entry.result l c.joined_entry.ensures c.loop-p.invariant
+    written-set f v (joined m.rows (unit_vector f.laws c.args.i) (entry f.laws v m c.args.i)) (vector f.laws v c.args.row.now) c.loop-p.row c.loop-p.p c.joined_entry.result l c.joined_entry.ensures c.loop-p.invariant
 
 pub returns : goal.returns
 returns g c =
@@ -22,11 +22,11 @@ returns g c =
     let v = g.F.Field.value in
     let m = c.args.rows.now in
     let l : length c.loop-p.row ≤ c.loop-p.p = omega arith in
-    written-all f v (joined m.rows (unit_vector f.laws c.args.i) (entry f v m c.args.i)) (vector f v c.args.row.now) c.loop-p.row c.loop-p.p l
+    written-all f v (joined m.rows (unit_vector f.laws c.args.i) (entry f.laws v m c.args.i)) (vector f.laws v c.args.row.now) c.loop-p.row c.loop-p.p l
     (λ k h.
     let w : length c.loop-p.row ≡ length c.args.row.now = c.loop-p.auto.row in
     let e = c.requires.width in
     let past : m.rows ≤ k = omega arith in
     let right : m.cols ≤ k - m.rows = omega arith in
-    joined-past m.rows (unit_vector f.laws c.args.i) (entry f v m c.args.i) k past ∙ entry-right f v m c.args.i (k - m.rows) right)
+    joined-past m.rows (unit_vector f.laws c.args.i) (entry f.laws v m c.args.i) k past ∙ entry-right f v m c.args.i (k - m.rows) right)
     c.loop-p.invariant

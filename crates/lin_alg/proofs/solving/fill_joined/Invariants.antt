@@ -9,4 +9,4 @@ abbrev pub invariant-loop-p : goal.invariant-loop-p
 invariant-loop-p g l =
     let f = g.F.Field.field in
     let v = g.F.Field.value in
-    IsWritten f v (joined l.rows.rows (unit_vector f.laws l.i) (entry f v l.rows l.i)) (vector f v l.fn.row) l.row l.p
+    IsWritten f v (joined l.rows.rows (unit_vector f.laws l.i) (entry f.laws v l.rows l.i)) (vector f.laws v l.fn.row) l.row l.p

@@ -17,4 +17,4 @@ loop-x-preserved g c =
     let v = g.F.Field.value in
     let at = vector-at f v c.args.row.now c.loop-x.x-index c.x-item.result c.loop-x-test.true c.x-item.is in
     let z : f.laws.is_nought (v c.x-item.result) ≡ true = cc (c.is_zero.ensures, c.if-not-is_zero.false) in
-    below_more (λ j. vector f v c.args.row.now j ≡ f.laws.nought) c.loop-x.x-index c.loop-x.invariant (at ∙ f.laws.is_nought-true (v c.x-item.result) z)
+    below_more (λ j. vector f.laws v c.args.row.now j ≡ f.laws.nought) c.loop-x.x-index c.loop-x.invariant (at ∙ f.laws.is_nought-true (v c.x-item.result) z)

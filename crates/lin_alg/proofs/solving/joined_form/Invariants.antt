@@ -9,6 +9,6 @@ abbrev pub invariant-loop-i : goal.invariant-loop-i
 invariant-loop-i g l =
     let f = g.F.Field.field in
     let v = g.F.Field.value in
-    (l.form.width ≡ l.rows.rows + l.rows.cols) × (l.form.whole ≡ true) × IsEchelon f v l.form
-    × AreSame (IsSpanned f v l.form) (IsInSpan f.laws (joined_rows f.laws l.rows.rows (entry f v l.rows) l.i))
+    (l.form.width ≡ l.rows.rows + l.rows.cols) × (l.form.whole ≡ true) × IsEchelon f.laws v l.form
+    × AreSame (IsSpanned f.laws v l.form) (IsInSpan f.laws (joined_rows f.laws l.rows.rows (entry f.laws v l.rows) l.i))
     × (vec_len l.row ≡ l.rows.rows + l.rows.cols)

@@ -7,4 +7,4 @@ abbrev pub invariant-loop-p : goal.invariant-loop-p
 invariant-loop-p g l =
     let f = g.F.Field.field in
     let v = g.F.Field.value in
-    IsWritten f v (joined l.n (λ _. f.laws.nought) (vector f v l.target)) (vector f v l.fn.row) l.row l.p
+    IsWritten f v (joined l.n (λ _. f.laws.nought) (vector f.laws v l.target)) (vector f.laws v l.fn.row) l.row l.p

@@ -1,4 +1,5 @@
 use Rattle.std.proofs.Common.{◌≡◌, ◌<◌, ◌+◌, ◌-◌, ◌*◌, ◌^◌, arith, ℕ, List, map, length, sym, ◌∙◌, ap, subst, true, false}
+use Rattle.lin_alg.specs.Spans.{row_vectors}
 use Rattle.std.specs.List.{slice_index}
 use Rattle.lin_alg.specs.Reduced.{IsForm, is_pivot, free_columns}
 use Rattle.lin_alg.specs.Rows.{exact_rows}
@@ -46,11 +47,11 @@ returns-clause-units g c i k l m =
     let rows : map {B = ℕ × List _} (λ r. (r.0, r.1.items)) c.deref-3.result.now ≡ R = ap (map (λ r. (r.0, r.1.items))) c.deref-3.ensures.value ∙ ap (λ z. z.rows) c.self.view_is in
     let size : c.fill_basis.new.basis.rows ≡ length c.deref-2.result.now = c.fill_basis.ensures.rows ∙ c.in_ok-basis.ensures.rows ∙ c.len.ensures ∙ c.in_ok-columns.columns.ok.0 ∙ sym (ap length c.deref-2.ensures.value) in
     let inside : (i : ℕ) → i < c.fill_basis.new.basis.rows → i < length (free_columns W R) = λ i l. subst (λ (n : ℕ). i < n) (size ∙ ap length columns) l in
-    let vectors : (i : ℕ) → i < c.fill_basis.new.basis.rows → (j : ℕ) → entry f v c.fill_basis.new.basis i j ≡ free_vector f.laws (exact_rows f v R) (slice_index (free_columns W R) i) j =
-    λ i l j. c.fill_basis.ensures.vectors i (subst (λ (n : ℕ). i < n) size l) j ∙ (λ z. free_vector f.laws (exact_rows f v (rows z)) (slice_index (columns z) i) j) in
+    let vectors : (i : ℕ) → i < c.fill_basis.new.basis.rows → (j : ℕ) → entry f.laws v c.fill_basis.new.basis i j ≡ free_vector f.laws (exact_rows f.laws v R) (slice_index (free_columns W R) i) j =
+    λ i l j. c.fill_basis.ensures.vectors i (subst (λ (n : ℕ). i < n) size l) j ∙ (λ z. free_vector f.laws (exact_rows f.laws v (rows z)) (slice_index (columns z) i) j) in
     let own : ℕ = slice_index (free_columns W R) i in
     let other : ℕ = slice_index (free_columns W R) k in
-    vectors i l other ∙ free-other f.laws (exact_rows f v R) own other (exact-pivot f v other R ∙ (free_columns-at W R k (inside k m)).1)
+    vectors i l other ∙ free-other f.laws (exact_rows f.laws v R) own other (exact-pivot f v other R ∙ (free_columns-at W R k (inside k m)).1)
 
 pub returns-clause-vanishes : goal.returns-clause-vanishes
 returns-clause-vanishes g c i l =
@@ -63,13 +64,13 @@ returns-clause-vanishes g c i l =
     let rows : map {B = ℕ × List _} (λ r. (r.0, r.1.items)) c.deref-3.result.now ≡ R = ap (map (λ r. (r.0, r.1.items))) c.deref-3.ensures.value ∙ ap (λ z. z.rows) c.self.view_is in
     let size : c.fill_basis.new.basis.rows ≡ length c.deref-2.result.now = c.fill_basis.ensures.rows ∙ c.in_ok-basis.ensures.rows ∙ c.len.ensures ∙ c.in_ok-columns.columns.ok.0 ∙ sym (ap length c.deref-2.ensures.value) in
     let inside : (i : ℕ) → i < c.fill_basis.new.basis.rows → i < length (free_columns W R) = λ i l. subst (λ (n : ℕ). i < n) (size ∙ ap length columns) l in
-    let vectors : (i : ℕ) → i < c.fill_basis.new.basis.rows → (j : ℕ) → entry f v c.fill_basis.new.basis i j ≡ free_vector f.laws (exact_rows f v R) (slice_index (free_columns W R) i) j =
-    λ i l j. c.fill_basis.ensures.vectors i (subst (λ (n : ℕ). i < n) size l) j ∙ (λ z. free_vector f.laws (exact_rows f v (rows z)) (slice_index (columns z) i) j) in
-    let form : IsForm f.laws W (exact_rows f v R) =
-    subst (λ (e : EchelonView _). e.whole ≡ true → IsForm f.laws e.width (exact_rows f v e.rows)) c.self.view_is c.self.invariant.2.form c.requires.whole in
+    let vectors : (i : ℕ) → i < c.fill_basis.new.basis.rows → (j : ℕ) → entry f.laws v c.fill_basis.new.basis i j ≡ free_vector f.laws (exact_rows f.laws v R) (slice_index (free_columns W R) i) j =
+    λ i l j. c.fill_basis.ensures.vectors i (subst (λ (n : ℕ). i < n) size l) j ∙ (λ z. free_vector f.laws (exact_rows f.laws v (rows z)) (slice_index (columns z) i) j) in
+    let form : IsForm f.laws W (exact_rows f.laws v R) =
+    subst (λ (e : EchelonView _). e.whole ≡ true → IsForm f.laws e.width (exact_rows f.laws v e.rows)) c.self.view_is c.self.invariant.2.form c.requires.whole in
     let own : ℕ = slice_index (free_columns W R) i in
-    subst (λ (u : ℕ → _). Vanishes f.laws W (exact_rows f v R) u) (sym (funext (vectors i l)))
-    (free-vanishes f.laws W (exact_rows f v R) own (free_columns-at W R i (inside i l)).0 form.pivots form.reduced)
+    subst (λ (u : ℕ → _). Vanishes f.laws W (row_vectors (exact_rows f.laws v R)) u) (sym (funext (vectors i l)))
+    (free-vanishes f.laws W (exact_rows f.laws v R) own (free_columns-at W R i (inside i l)).0 form.pivots form.reduced)
 
 pub new-requires : goal.new-requires
 new-requires g c =

@@ -1,5 +1,5 @@
 use Rattle.std.proofs.Common.{◌≡◌, ℕ, List, map, ap, ◌∙◌, subst, true}
-use Rattle.lin_alg.specs.Spans.{less, IsInSpan}
+use Rattle.lin_alg.specs.Spans.{row_vectors, less, IsInSpan}
 use Rattle.lin_alg.specs.Reduced.{reduce, IsClear}
 use Rattle.lin_alg.specs.Rows.{vector, exact_rows}
 use Rattle.lin_alg.proofs.HeldLemmas.{left_differs, left_clear}
@@ -19,9 +19,9 @@ returns-clause-differs g c =
     let f = g.F.Field.field in
     let v = g.F.Field.value in
     let old : List (ℕ × List _) = map (λ r. (r.0, r.1.items)) c.self.inside.lines.items in
-    let e : vector f v c.reduce_row.new.row ≡ reduce f.laws (exact_rows f v old) (vector f v c.args.row.now) = rw (c.deref.ensures.value) at c.in_ok-reduce_row.ensures.exact in
-    subst (λ (z : List (ℕ × List _)). IsInSpan f.laws (exact_rows f v z) (less f.laws (vector f v c.args.row.now) f.laws.unit (vector f v c.reduce_row.new.row))) (ap (λ z. z.rows) c.self.view_is)
-    (left_differs f (exact_rows f v old) (vector f v c.args.row.now) (vector f v c.reduce_row.new.row) e)
+    let e : vector f.laws v c.reduce_row.new.row ≡ reduce f.laws (exact_rows f.laws v old) (vector f.laws v c.args.row.now) = rw (c.deref.ensures.value) at c.in_ok-reduce_row.ensures.exact in
+    subst (λ (z : List (ℕ × List _)). IsInSpan f.laws (row_vectors (exact_rows f.laws v z)) (less f.laws (vector f.laws v c.args.row.now) f.laws.unit (vector f.laws v c.reduce_row.new.row))) (ap (λ z. z.rows) c.self.view_is)
+    (left_differs f (exact_rows f.laws v old) (vector f.laws v c.args.row.now) (vector f.laws v c.reduce_row.new.row) e)
 
 pub returns-clause-clear : goal.returns-clause-clear
 returns-clause-clear g c =
@@ -29,6 +29,6 @@ returns-clause-clear g c =
     let v = g.F.Field.value in
     let old : List (ℕ × List _) = map (λ r. (r.0, r.1.items)) c.self.inside.lines.items in
     let whole : c.self.inside.whole ≡ true = ap (λ z. z.whole) c.self.view_is ∙ c.requires.whole in
-    let e : vector f v c.reduce_row.new.row ≡ reduce f.laws (exact_rows f v old) (vector f v c.args.row.now) = rw (c.deref.ensures.value) at c.in_ok-reduce_row.ensures.exact in
-    subst (λ (z : List (ℕ × List _)). IsClear f.laws (exact_rows f v z) (vector f v c.reduce_row.new.row)) (ap (λ z. z.rows) c.self.view_is)
-    (left_clear f (exact_rows f v old) (vector f v c.args.row.now) (vector f v c.reduce_row.new.row) (c.self.invariant.2.form whole).reduced e)
+    let e : vector f.laws v c.reduce_row.new.row ≡ reduce f.laws (exact_rows f.laws v old) (vector f.laws v c.args.row.now) = rw (c.deref.ensures.value) at c.in_ok-reduce_row.ensures.exact in
+    subst (λ (z : List (ℕ × List _)). IsClear f.laws (exact_rows f.laws v z) (vector f.laws v c.reduce_row.new.row)) (ap (λ z. z.rows) c.self.view_is)
+    (left_clear f (exact_rows f.laws v old) (vector f.laws v c.args.row.now) (vector f.laws v c.reduce_row.new.row) (c.self.invariant.2.form whole).reduced e)

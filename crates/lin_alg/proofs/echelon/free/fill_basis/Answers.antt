@@ -26,12 +26,12 @@ loop-i-preserved g c =
     let f = g.F.Field.field in
     let v = g.F.Field.value in
     let i = c.loop-i.i in
-    let rs = exact_rows f v (map (λ r. (r.0, r.1.items)) c.args.lines.now) in
+    let rs = exact_rows f.laws v (map (λ r. (r.0, r.1.items)) c.args.lines.now) in
     let new = c.fill_free.new.basis in
-    let here : (j : ℕ) → entry f v new i j ≡ free_vector f.laws rs (slice_index c.args.columns.now i) j = c.fill_free.ensures.vector in (
+    let here : (j : ℕ) → entry f.laws v new i j ≡ free_vector f.laws rs (slice_index c.args.columns.now i) j = c.fill_free.ensures.vector in (
       c.fill_free.ensures.rows ∙ c.loop-i.invariant.0,
       c.fill_free.ensures.cols ∙ c.loop-i.invariant.1,
-      below_more (λ k. (j : ℕ) → entry f v new k j ≡ free_vector f.laws rs (slice_index c.args.columns.now k) j) i
+      below_more (λ k. (j : ℕ) → entry f.laws v new k j ≡ free_vector f.laws rs (slice_index c.args.columns.now k) j) i
           (λ k l j. let n : k ≡ i → ⊥ = λ e. absurd (omega (arith, e, l)) in c.fill_free.ensures.others k j n ∙ c.loop-i.invariant.2 k l j) here,
       λ k j l.
           let n : k ≡ i → ⊥ = λ e. absurd (omega (arith, e, l)) in

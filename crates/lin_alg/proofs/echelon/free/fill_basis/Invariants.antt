@@ -10,5 +10,5 @@ invariant-loop-i g l =
     let f = g.F.Field.field in
     let v = g.F.Field.value in
     (l.basis.rows ≡ l.fn.basis.rows) × (l.basis.cols ≡ l.fn.basis.cols)
-    × ((k : ℕ) → k < l.i → (j : ℕ) → entry f v l.basis k j ≡ free_vector f.laws (exact_rows f v (map (λ r. (r.0, r.1.items)) l.lines)) (slice_index l.columns k) j)
-    × ((k j : ℕ) → l.i ≤ k → entry f v l.basis k j ≡ f.laws.nought)
+    × ((k : ℕ) → k < l.i → (j : ℕ) → entry f.laws v l.basis k j ≡ free_vector f.laws (exact_rows f.laws v (map (λ r. (r.0, r.1.items)) l.lines)) (slice_index l.columns k) j)
+    × ((k j : ℕ) → l.i ≤ k → entry f.laws v l.basis k j ≡ f.laws.nought)

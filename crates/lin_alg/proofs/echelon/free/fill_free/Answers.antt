@@ -36,14 +36,14 @@ loop-s-preserved g c =
     let l0 : s - 1 < length c.args.lines.now = omega (arith, c.loop-s-test.true, c.loop-s.auto.s) in
     let l : s - 1 < length all = rw length-map l0 in
     let e : x ≡ get_or all (s - 1) x = item-at (λ r. (r.0, r.1.items)) c.args.lines.now (s - 1) c.index-lines-s.result l0 c.index-lines-s.is in
-    let old = entry f v c.loop-s.basis in
-    let new = entry f v c.set_pivot.new.basis in
-    let y = f.laws.neg (vector f v x.1 c.args.c) in
+    let old = entry f.laws v c.loop-s.basis in
+    let new = entry f.laws v c.set_pivot.new.basis in
+    let y = f.laws.neg (vector f.laws v x.1 c.args.c) in
     let es : s - 1 + 1 ≡ s = omega (arith, c.loop-s-test.true) in (
       c.set_pivot.ensures.rows ∙ c.loop-s.invariant.0,
       c.set_pivot.ensures.cols ∙ c.loop-s.invariant.1,
       λ k j n. c.set_pivot.ensures.entries k j ∙ with_entry-other i x.0 y old k j n ∙ c.loop-s.invariant.2 k j n,
       free-step f v all (s - 1) x c.args.c (old i) (new i) l e c.requires.form c.requires.free
-          (λ j. c.loop-s.invariant.3 j ∙ ap (λ n. free_vector f.laws (exact_rows f v (drop n all)) c.args.c j) (sym es))
+          (λ j. c.loop-s.invariant.3 j ∙ ap (λ n. free_vector f.laws (exact_rows f.laws v (drop n all)) c.args.c j) (sym es))
           (λ j. c.set_pivot.ensures.entries i j ∙ with_entry-row i x.0 y old j),
     )

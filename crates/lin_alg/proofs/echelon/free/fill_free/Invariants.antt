@@ -9,5 +9,5 @@ invariant-loop-s g l =
     let f = g.F.Field.field in
     let v = g.F.Field.value in
     (l.basis.rows ≡ l.fn.basis.rows) × (l.basis.cols ≡ l.fn.basis.cols)
-    × ((k j : ℕ) → (k ≡ l.i → ⊥) → entry f v l.basis k j ≡ entry f v l.fn.basis k j)
-    × ((j : ℕ) → entry f v l.basis l.i j ≡ free_vector f.laws (exact_rows f v (drop l.s (map (λ r. (r.0, r.1.items)) l.lines))) l.c j)
+    × ((k j : ℕ) → (k ≡ l.i → ⊥) → entry f.laws v l.basis k j ≡ entry f.laws v l.fn.basis k j)
+    × ((j : ℕ) → entry f.laws v l.basis l.i j ≡ free_vector f.laws (exact_rows f.laws v (drop l.s (map (λ r. (r.0, r.1.items)) l.lines))) l.c j)
