@@ -1,12 +1,11 @@
 -- Columns of rotations, and operations of a group.
-use Rattle.std.proofs.Common.{◌≡◌, subst, FitsSigned, w8, ◌∙◌, ℕ, ◌<◌, ap, sym, ℤ, pos, ◌≤ℤ◌, List, [], ◌∷◌, length, arith}
+use Rattle.std.proofs.Common.{◌≡◌, subst, FitsSigned, w8, ◌∙◌, ℕ, ◌<◌, ap, sym, ℤ, List, [], ◌∷◌, length, arith}
 use Rattle.std.proofs.lemmas.Int.{ints, to_z-of_z}
 use Rattle.space_ops.specs.declared.op.Op.{Op}
 use Rattle.algebra.specs.Whole.{whole}
 use Rattle.space_ops.specs.Seitz.{Seitz, inverse_matrix}
-use Rattle.space_ops.specs.Op.{IsWithin, IsShiftWithin, IsSmallMatrix, seitz_of, inverse_of, number_at}
+use Rattle.space_ops.specs.Op.{IsWithin, IsShiftWithin, IsSmallMatrix, seitz_of, inverse_of}
 use Rattle.space_ops.specs.OpLaws.{seitz_of-inverse_of}
-use Rattle.space_ops.specs.LeastShift.{IsInCell}
 use Rattle.space_ops.specs.Words.{op_at}
 use Rattle.space_ops.specs.Group.{Parent, IsParentGroup}
 use Rattle.space_ops.specs.GroupLaws.{parent-inverse}
@@ -20,12 +19,6 @@ more x h = (omega (arith, ints, h.0), omega (arith, ints, h.1))
 
 pub column_near : (r : List ℤ) (x y z : ℤ) → r ≡ x ∷ y ∷ z ∷ [] → IsWithin 3 x → IsWithin 3 y → IsWithin 3 z → IsShiftWithin 12 r
 column_near r x y z e h k l = subst (IsShiftWithin 12) (sym e) (more x h, more y k, more z l)
-
-cell_near : (x : ℤ) → (pos 0 ≤ℤ x) × (x ≤ℤ pos 11) → IsWithin 1000000 x
-cell_near x h = (omega (arith, ints, h.0), omega (arith, ints, h.1))
-
-pub op_near : (o : Op) → IsInCell (seitz_of o).shift → IsShiftWithin 1000000 o.shift
-op_near o h = (cell_near (number_at o.shift 0) h.0, cell_near (number_at o.shift 1) h.1, cell_near (number_at o.shift 2) h.2)
 
 pub inverse_rotation : (o q g : Op) → q ≡ inverse_of o → o ≡ g → (seitz_of q).rot ≡ inverse_matrix whole (seitz_of g).rot
 inverse_rotation o q g e f = ap (λ (x : Op). (seitz_of x).rot) (e ∙ ap inverse_of f) ∙ ap (λ (s : Seitz ℤ). s.rot) (seitz_of-inverse_of g)

@@ -1,12 +1,13 @@
 -- That the fields of a star are the star of a wave vector.
-use Rattle.std.proofs.Common.{◌≡◌, sym, ap, ◌∙◌, subst, ℕ, ◌<◌, ℤ, List, length, get_or, Result, Ok, Err, IfOk, arith}
+use Rattle.std.proofs.Common.{◌≡◌, sym, ap, ◌∙◌, subst, ℕ, ◌<◌, ◌≤◌, ℤ, List, length, get_or, Result, Ok, Err, IfOk, arith}
 use Rattle.space_ops.specs.declared.lattice.Lattice.{Lattice}
 use Rattle.space_ops.specs.Op.{vector_of}
 use Rattle.space_ops.specs.Matrix.{Vector}
 use Rattle.space_ops.specs.Group.{Parent}
 use Rattle.kstar.specs.WaveVector.{AreEquivalent}
 use Rattle.algebra.specs.RisingLists.{IsRisingListOf}
-use Rattle.algebra.specs.RisingListLaws.{list-same}
+use Rattle.algebra.specs.Pigeonhole.{pigeonhole}
+use Rattle.algebra.specs.RisingListLaws.{list-same, list-injective}
 use Rattle.kstar.specs.Star.{image_at, IsLittle, IsFirstOfArm, WaveStar, row_in, AreImages, IsStarOf}
 use Rattle.kstar.specs.Rows.{AreAllImages, AreRowsAt, IsStarOfRows}
 
@@ -14,6 +15,12 @@ use Rattle.kstar.specs.Rows.{AreAllImages, AreRowsAt, IsStarOfRows}
 pub ok_same : {T E : Type 0} {P Q : T → Type 0} (r : Result T E) → ((x : T) → P x → Q x) → IfOk r P → IfOk r Q
 ok_same (Ok x) f h = f x h
 ok_same (Err e) f h = h
+
+-- a rising list of numbers below n has at most n of them
+pub few_listed : (n : ℕ) (P : ℕ → Type 0) (xs : List ℕ) → IsRisingListOf n P xs → n ≤ 48 → length xs ≤ 48
+few_listed n P xs h l =
+    let k : length xs ≤ n = pigeonhole (length xs) n (λ i _. get_or xs i 0) h.below (λ i j a b e. list-injective n P xs h i j a b e) in
+    omega (arith, k, l)
 
 module _ (p : Parent) (k : Vector ℤ) (images : List (List ℤ)) (all : AreAllImages p k (length p.ops) images) where
   little-is : (lattice : Lattice) (xs : List ℕ) → lattice ≡ p.lattice → IsRisingListOf (length images) (λ r. AreEquivalent lattice (row_in images r) k) xs → IsRisingListOf (length p.ops) (IsLittle p k) xs

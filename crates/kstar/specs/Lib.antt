@@ -9,6 +9,8 @@ pub mod ImageLaws
 pub mod LittleLaws
 pub mod DecisionLaws
 pub mod ArmLaws
+pub mod MoveLaws
+pub mod Moves
 pub mod OrderLaws
 pub mod StarLaws
 pub mod StarView

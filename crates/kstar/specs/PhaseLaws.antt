@@ -5,13 +5,25 @@
 -- phase_of-unique: no other number below 24 is
 -- phase_of-sum: the phase of a sum is the sum of the phases modulo 24
 -- phase_of-equal: equal where k.t differs by a whole number
-use Rattle.std.proofs.Common.{◌≡◌, ℕ, zero, suc, ◌<◌, ◌+◌, ◌*◌, ◌%◌, ◌/◌, ℤ, pos, negsuc, ◌+ℤ◌, ◌*ℤ◌, neg_ℤ, arith}
+-- phase_of-zero, phase_of-minus: the phase of 0 is 0, that of -t the opposite of that of t
+-- phase_of-image: the phase of t under an arm k R^-1 is that of R^-1 t under k
+use Rattle.std.proofs.Common.{◌≡◌, refl, sym, ap, ◌∙◌, subst, ℕ, zero, suc, ◌<◌, ◌+◌, ◌-◌, ◌*◌, ◌%◌, ◌/◌, ℤ, pos, negsuc, ◌+ℤ◌, ◌*ℤ◌, neg_ℤ, arith}
 use Rattle.std.proofs.lemmas.Int.{ints}
 use Rattle.algebra.specs.Whole.{whole}
-use Rattle.space_ops.specs.Matrix.{Vector, vector_sum}
+use Rattle.algebra.specs.WholeLaws.{whole_ring}
+use Rattle.algebra.specs.Solve.{exps}
+use Rattle.algebra.specs.SolveLaws.{solve}
+use Rattle.space_ops.specs.Matrix.{Vector, image_under, vector_sum, minus_vector, zero_vector, unit_matrix}
+use Rattle.space_ops.specs.MatrixLaws.{same_vector}
+use Rattle.space_ops.specs.Seitz.{inverse_matrix}
+use Rattle.space_ops.specs.Words.{op_at}
+use Rattle.space_ops.specs.Group.{Parent}
+use Rattle.algebra.specs.MultipleLaws.{multiple_minus}
 use Rattle.algebra.specs.Multiples.{IsMultiple}
 use Rattle.kstar.specs.WaveVector.{row_value, HasPhase, turn_of, phase_of}
-use Rattle.kstar.specs.WaveVectorLaws.{row_value-sum}
+use Rattle.kstar.specs.WaveVectorLaws.{row_value-sum, row_value-product}
+use Rattle.kstar.specs.Star.{image_at}
+use Rattle.kstar.specs.RowExpressions.{vk, vt, env, value_exp}
 
 turn_below : (x : ℤ) → turn_of x < 24
 turn_below (pos zero) = omega arith
@@ -76,3 +88,32 @@ phase_of-sum k s t h g =
     let o = phase_of-is k (vector_sum whole s t) both in
     summed (phase_of k s) (phase_of k t) (phase_of k (vector_sum whole s t)) (row_value k s) (row_value k t) z m.quotient n.quotient o.quotient
     (phase_of-below k (vector_sum whole s t)) e m.is n.is o.is
+
+row_value-zero : (k : Vector ℤ) → row_value k (zero_vector whole) ≡ pos 0
+row_value-zero k = let e = unit_matrix whole in solve whole whole_ring (env k k k k e e) (value_exp vk (zero_vector exps)) (exps.num 0) refl
+
+row_value-minus : (k t : Vector ℤ) → row_value k (minus_vector whole t) ≡ neg_ℤ (row_value k t)
+row_value-minus k t = let e = unit_matrix whole in solve whole whole_ring (env k k k t e e) (value_exp vk (minus_vector exps vt)) (exps.neg (value_exp vk vt)) refl
+
+pub phase_of-zero : (k : Vector ℤ) → phase_of k (zero_vector whole) ≡ 0
+unfolding phase_of
+phase_of-zero k = ap turn_of (row_value-zero k)
+
+phase-minus : (k t : Vector ℤ) → HasPhase k t → HasPhase k (minus_vector whole t)
+phase-minus k t h = subst (IsMultiple 6) (sym (row_value-minus k t)) (multiple_minus 6 (row_value k t) h)
+
+opposite : (p q : ℕ) → p < 24 → q < 24 → 0 ≡ (p + q) % 24 → q ≡ (24 - p) % 24
+opposite p q l m e = omega (arith, l, m, e)
+
+pub phase_of-minus : (k t : Vector ℤ) → HasPhase k t → phase_of k (minus_vector whole t) ≡ (24 - phase_of k t) % 24
+phase_of-minus k t h =
+    opposite (phase_of k t) (phase_of k (minus_vector whole t)) (phase_of-below k t) (phase_of-below k (minus_vector whole t))
+    (sym (phase_of-zero k) ∙ ap (phase_of k) (nothing t) ∙ phase_of-sum k t (minus_vector whole t) h (phase-minus k t h))
+  where
+    nothing : (t : Vector ℤ) → zero_vector whole ≡ vector_sum whole t (minus_vector whole t)
+    nothing t = same_vector _ _ (omega (arith, ints)) (omega (arith, ints)) (omega (arith, ints))
+
+-- the phase under an arm, with every lattice translation
+pub phase_of-image : (p : Parent) (k t : Vector ℤ) (r : ℕ) → phase_of (image_at p k r) t ≡ phase_of k (image_under whole (inverse_matrix whole (op_at p.ops r).rot) t)
+unfolding phase_of
+phase_of-image p k t r = ap turn_of (row_value-product k (inverse_matrix whole (op_at p.ops r).rot) t)

@@ -1,5 +1,5 @@
 -- What contracts see of a star's fields.
-use Rattle.std.specs.Prelude.{◌≡◌, length}
+use Rattle.std.specs.Prelude.{◌≡◌, ◌≤◌, length}
 use Rattle.space_ops.specs.Op.{vector_of, IsShiftWithin}
 use Rattle.kstar.specs.declared.star.Star.TheInside.{Inside}
 use Rattle.kstar.specs.WaveVector.{HasPhases}
@@ -13,4 +13,6 @@ pub record IsStar (s : Inside) : Type 0 where
   pub near : IsShiftWithin 288 s.row
   pub arms_near : AreNear s.arms.items
   pub count : length s.arms.items ≡ length s.by.items
+  pub few_arms : length s.by.items ≤ 48
+  pub few_little : length s.little.items ≤ 48
   pub phases : HasPhases s.lattice (vector_of s.row)

@@ -19,6 +19,9 @@ mod rows;
 mod star;
 mod wave_vector;
 
-pub use laws::{equivalence_is_equivalence, image_of_a_product, phases_of_the_little_group};
+pub use laws::{
+    equivalence_is_equivalence, image_of_a_product, law_of_moves, law_of_phases,
+    phases_of_the_little_group,
+};
 pub use star::{Star, StarError};
 pub use wave_vector::KVector;

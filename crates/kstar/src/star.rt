@@ -1,5 +1,5 @@
 // The star of a wave vector.
-ghost use Rattle.std.specs.Prelude.{◌≡◌, ℕ, ◌<◌, ◌*◌, IfOk, length};
+ghost use Rattle.std.specs.Prelude.{◌≡◌, ℕ, ◌<◌, ◌≤◌, ◌*◌, IfOk, length};
 ghost use Rattle.space_ops.specs.Op.{IsShiftWithin, vector_of};
 ghost use Rattle.space_ops.specs.Group.{IsParentGroup};
 ghost use Rattle.kstar.specs.WaveVector.{HasPhases};
@@ -68,6 +68,7 @@ fn star_of_rows(
 ) -> Result<Star, NoMemory>
     requires images { AreNear images.now }
     requires row { IsShiftWithin 288 row }
+    requires few { length images.now ≤ 48 }
     requires phases { HasPhases lattice (vector_of row) }
     ensures { IfOk result (λ star. IsStarOfRows images.now lattice (vector_of row) star) }
 {
@@ -107,7 +108,7 @@ fn star_of(alloc: Global, group: &Group, row: [i32; 3]) -> Result<Star, NoMemory
 }
 
 impl Star {
-    ghost use Rattle.std.specs.Prelude.{◌≡◌, ℕ, ◌<◌, ◌+◌, ◌*◌, ◌%◌, ℤ, pos, ◌+ℤ◌, IfOk, length, slice_index, Err};
+    ghost use Rattle.std.specs.Prelude.{◌≡◌, ℕ, ◌<◌, ◌≤◌, ◌+◌, ◌*◌, ◌%◌, ℤ, pos, ◌+ℤ◌, IfOk, length, slice_index, Err};
     ghost use Rattle.algebra.specs.Whole.{whole};
     ghost use Rattle.space_ops.specs.Matrix.{Vector, vector_sum};
     ghost use Rattle.space_ops.specs.GroupLaws.{rotation_group};
@@ -143,16 +144,20 @@ impl Star {
         }
     }
 
-    /// The numbers of the rotations of the little group, rising.
+    /// The numbers of the rotations of the little group, rising, at most 48.
     pub fn little(&self) -> &[usize]
-        ensures { result.now ≡ self.now.little }
+        ensures value { result.now ≡ self.now.little }
+        ensures few { length result.now ≤ 48 }
+        ensures phases { HasPhases self.now.lattice self.now.row }
     {
         &self.little
     }
 
-    /// The number of arms.
+    /// The number of arms, at most 48.
     pub fn arms(&self) -> usize
-        ensures { result ≡ length self.now.by }
+        ensures value { result ≡ length self.now.by }
+        ensures few { result ≤ 48 }
+        ensures phases { HasPhases self.now.lattice self.now.row }
     {
         self.by.len()
     }

@@ -1,16 +1,12 @@
 -- Bounds on the absolute values of whole numbers.
 use Rattle.std.proofs.Common.{◌≡◌, subst, FitsSigned, w8, w32, refl, ◌∙◌, List, ℕ, zero, suc, ◌*◌, ◌≤◌, ap, sym, ℤ, pos, negsuc, ◌*ℤ◌, ◌<ℤ◌, ◌≤ℤ◌, unsigned_abs, arith}
 use Rattle.std.proofs.lemmas.Int.{ints, unsigned_abs-mul, to_z-of_z, fits_signed_from_abs}
-use Rattle.std.proofs.Math.Nat.{mul-le-mul_left, mul-le-mul_right}
-use Rattle.space_ops.specs.WithinLaws.{abs_of_within, within_more, within_product}
+use Rattle.space_ops.specs.WithinLaws.{abs_of_within, shift_more, within_product}
 use Rattle.space_ops.proofs.Passed.{passed, passed_long}
 use Rattle.space_ops.specs.Op.{IsWithin, IsShiftWithin, IsRotationWithin, IsSmallRotation, number_at, row_at}
 
-pub row_more : (m n : ℕ) (row : List ℤ) → m ≤ n → IsShiftWithin m row → IsShiftWithin n row
-row_more m n row l h = (within_more m n (number_at row 0) l h.0, within_more m n (number_at row 1) l h.1, within_more m n (number_at row 2) l h.2)
-
 pub rotation_more : (rot : List (List ℤ)) → IsSmallRotation rot → IsRotationWithin 18 rot
-rotation_more rot h = (row_more 3 18 (row_at rot 0) (omega arith) h.0, row_more 3 18 (row_at rot 1) (omega arith) h.1, row_more 3 18 (row_at rot 2) (omega arith) h.2)
+rotation_more rot h = (shift_more 3 18 (row_at rot 0) (omega arith) h.0, shift_more 3 18 (row_at rot 1) (omega arith) h.1, shift_more 3 18 (row_at rot 2) (omega arith) h.2)
 
 unit_abs : (n : ℕ) → n * n ≡ 1 → n ≡ 1
 unit_abs zero e = absurd (omega (arith, e))

@@ -1,5 +1,5 @@
 -- The least of the reduced sums is the least translation.
-use Rattle.std.proofs.Common.{◌≡◌, refl, sym, ap, ◌∙◌, subst, ℕ, suc, ◌<◌, ◌+◌, ◌*◌, ◌/◌, ◌%◌, ℤ, pos, negsuc, ◌+ℤ◌, ◌*ℤ◌, neg_ℤ, List, [], length, get_or, cond, arith, below_more}
+use Rattle.std.proofs.Common.{◌≡◌, refl, sym, ap, ◌∙◌, subst, ℕ, ◌<◌, ◌+◌, ℤ, pos, ◌+ℤ◌, ◌*ℤ◌, List, [], length, get_or, cond, arith, below_more}
 use Rattle.std.proofs.lemmas.Int.{ints}
 use Rattle.std.proofs.lemmas.Cmp.{lists_total, int_cmp_total, tied_itself, alike_right}
 use Rattle.std.specs.Int.{int_rem_euclid}
@@ -16,7 +16,7 @@ use Rattle.space_ops.specs.MatrixLaws.{same_vector}
 use Rattle.space_ops.specs.Op.{number_at, vector_of, shift_of}
 use Rattle.space_ops.specs.Lattice.{centrings_of}
 use Rattle.space_ops.specs.Words.{cell_edges, vector_difference}
-use Rattle.space_ops.specs.LeastShift.{vector_cmp, IsTwelfth, IsInCell, IsFirstOfReduced, IsLeastArray, reduced_sum, earlier_of}
+use Rattle.space_ops.specs.LeastShift.{vector_cmp, IsInCell, IsFirstOfReduced, IsLeastArray, reduced_sum, earlier_of}
 use Rattle.space_ops.specs.LeastShiftLaws.{reduced-unique, twelfth-rem}
 
 triples : IsTotalOrder (slice_cmp int_cmp)

@@ -1,5 +1,5 @@
 -- Signed numbers that were passed by value, read back.
-use Rattle.std.proofs.Common.{◌≡◌, ◌∙◌, ℤ, ◌+ℤ◌, ◌*ℤ◌, FitsSigned, w8, w32, to_z, of_z}
+use Rattle.std.proofs.Common.{◌≡◌, ◌∙◌, ℤ, FitsSigned, w8, w32, to_z, of_z}
 use Rattle.std.proofs.lemmas.Int.{to_z-of_z}
 use Rattle.algebra.specs.Whole.{whole}
 use Rattle.space_ops.specs.Matrix.{row_times}

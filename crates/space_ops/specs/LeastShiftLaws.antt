@@ -5,6 +5,7 @@
 -- least-itself: a least translation is its own
 -- twelfth-rem: a remainder by 12 is from 0 to 11
 -- reduced-unique: two sums in the cell that differ by whole cell edges are equal
+-- cell-within: a translation in the cell is at most 11 twelfths
 use Rattle.std.proofs.Common.{◌≡◌, refl, sym, ap, ◌∙◌, ℤ, pos, ◌+ℤ◌, ◌*ℤ◌, List, [], ◌∷◌, arith}
 use Rattle.std.proofs.lemmas.Int.{ints}
 use Rattle.std.proofs.lemmas.Cmp.{lists_total, on_total, int_cmp_total}
@@ -21,7 +22,7 @@ use Rattle.algebra.specs.MultipleLaws.{rem-within}
 use Rattle.algebra.specs.Whole.{whole}
 use Rattle.space_ops.specs.Matrix.{Vector, vector_sum}
 use Rattle.space_ops.specs.MatrixLaws.{same_vector}
-use Rattle.space_ops.specs.Op.{shift_of}
+use Rattle.space_ops.specs.Op.{shift_of, vector_of, number_at, IsWithin, IsShiftWithin}
 use Rattle.space_ops.specs.Words.{cell_edges, vector_difference, IsLatticeVector}
 use Rattle.space_ops.specs.LatticeLaws.{differ-refl, differ-sym, differ-trans}
 use Rattle.space_ops.specs.LeastShift.{vector_cmp, IsTwelfth, IsInCell, IsLeastShift}
@@ -84,3 +85,9 @@ reduced-unique v w u h k e =
     (twelfth_unique v.x w.x u.x h.0 k.0 (ap (λ (p : Vector ℤ). p.x) e))
     (twelfth_unique v.y w.y u.y h.1 k.1 (ap (λ (p : Vector ℤ). p.y) e))
     (twelfth_unique v.z w.z u.z h.2 k.2 (ap (λ (p : Vector ℤ). p.z) e))
+
+twelfth-within : (x : ℤ) → IsTwelfth x → IsWithin 11 x
+twelfth-within x h = (omega (arith, ints, h.0), omega (arith, ints, h.1))
+
+pub cell-within : (t : List ℤ) → IsInCell (vector_of t) → IsShiftWithin 11 t
+cell-within t h = (twelfth-within (number_at t 0) h.0, twelfth-within (number_at t 1) h.1, twelfth-within (number_at t 2) h.2)

@@ -2,7 +2,7 @@
 --
 -- letter-back: the lattice of its own letter
 -- lattice-letter: the letter of the lattice that a letter names
-use Rattle.std.proofs.Common.{◌≡◌, refl, ap, ◌∙◌, ℕ, true, List, [], ◌∷◌, Option, Some, ◌==◌, if◌then◌else◌}
+use Rattle.std.proofs.Common.{◌≡◌, refl, ap, ◌∙◌, ℕ, List, [], ◌∷◌, Some, ◌==◌, if◌then◌else◌}
 use Rattle.std.proofs.lemmas.Bool.{eqb-true}
 use Rattle.algebra.specs.SolveLaws.{by_test}
 use Rattle.space_ops.specs.declared.lattice.Lattice.{Lattice}

@@ -19,3 +19,7 @@ pub mod Order
 pub mod GroupView
 pub mod GroupLaws
 pub mod ListUnique
+pub mod Member
+pub mod MemberLaws
+pub mod OpGroup
+pub mod OpGroupLaws

@@ -57,7 +57,7 @@ impl Model for Group {
 
 impl Group {
     ghost use Rattle.std.specs.Prelude.{◌≡◌, ℕ, ◌<◌, ◌≤◌, IfOk, IfErr, MatchOption, true, false, length, slice_index_or};
-    ghost use Rattle.space_ops.specs.Op.{matrix_of, identity_op, seitz_of};
+    ghost use Rattle.space_ops.specs.Op.{matrix_of, identity_op, seitz_of, IsSmallRotation, IsShiftWithin, IsUnimodular};
     ghost use Rattle.space_ops.specs.Words.{op_at, IsWord, HasTooManyRotations, HasExtraTranslation};
     ghost use Rattle.space_ops.specs.Group.{AreGenerators, IsParentGroup, IsCauseOf};
 
@@ -117,18 +117,23 @@ impl Group {
         self.ops.len()
     }
 
-    /// Operation i of the list, from 0.
+    /// Operation i of the list, from 0. It may be composed and inverted.
     pub fn op(&self, i: usize) -> Op
         requires { i < length self.now.ops }
-        ensures { result ≡ slice_index_or self.now.ops i identity_op }
+        ensures value { result ≡ slice_index_or self.now.ops i identity_op }
+        ensures group { IsParentGroup self.now }
+        ensures small { IsSmallRotation result.rot }
+        ensures near { IsShiftWithin 11 result.shift }
+        ensures unimodular { IsUnimodular (matrix_of result.rot) }
     {
         self.ops[i]
     }
 
     /// The place of the operation with this rotation.
     pub fn index_of(&self, rot: [[i8; 3]; 3]) -> Option<usize>
-        ensures { MatchOption result ((j : ℕ) → j < length self.now.ops → (op_at self.now.ops j).rot ≡ matrix_of rot → ⊥)
+        ensures place { MatchOption result ((j : ℕ) → j < length self.now.ops → (op_at self.now.ops j).rot ≡ matrix_of rot → ⊥)
             (λ i. (i < length self.now.ops) × ((op_at self.now.ops i).rot ≡ matrix_of rot)) }
+        ensures group { IsParentGroup self.now }
     {
         place_of(&self.ops, rot)
     }
@@ -148,7 +153,8 @@ impl Group {
 
     /// The lattice that `close` was given.
     pub fn lattice(&self) -> Lattice
-        ensures { result ≡ self.now.lattice }
+        ensures value { result ≡ self.now.lattice }
+        ensures group { IsParentGroup self.now }
     {
         self.lattice
     }

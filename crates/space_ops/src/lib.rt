@@ -14,6 +14,7 @@ mod generators;
 mod group;
 mod keeping;
 mod lattice;
+mod laws;
 mod least_shift;
 mod op;
 mod op_text;
@@ -24,4 +25,5 @@ mod steps;
 
 pub use group::{Group, GroupError};
 pub use lattice::{Lattice, law_of_letters};
+pub use laws::{law_of_lists, law_of_members, law_of_operations};
 pub use op::{Op, TWELFTHS};

@@ -1,8 +1,14 @@
 // Symmetry operations in Seitz notation.
-ghost use Rattle.std.specs.Prelude.{◌≡◌};
-ghost use Rattle.space_ops.specs.Op.{IsSmallRotation, IsShiftWithin, IsUnimodular, matrix_of, product_of, inverse_of};
+ghost use Rattle.std.specs.Prelude.{◌≡◌, ℕ, ◌+◌, ◌*◌};
+ghost use Rattle.algebra.specs.Whole.{whole};
+ghost use Rattle.space_ops.specs.declared.lattice.Lattice.{Lattice};
+ghost use Rattle.space_ops.specs.Matrix.{determinant};
+ghost use Rattle.space_ops.specs.Op.{IsSmallRotation, IsRotationWithin, IsShiftWithin, IsUnimodular, matrix_of, vector_of, shift_of, seitz_of, product_of, inverse_of, identity_op};
+ghost use Rattle.space_ops.specs.Words.{IsSameUpToLattice};
+ghost use Rattle.space_ops.specs.LeastShift.{IsInCell, reduced_vector};
 
-use crate::rotation::{inverse_rotation, moved, rotation_product};
+use crate::least_shift::reduced_shift;
+use crate::rotation::{determinant_of, inverse_rotation, moved, rotation_product};
 use crate::shift::{negative_shift, shift_sum};
 use iso_text::OpText;
 
@@ -28,14 +34,16 @@ impl Op {
     }
 
     /// The product {R|t}{S|s} = {RS | t + R s}, its translation not reduced. Condition: entries from
-    /// -3 to 3, translations at most 1,000,000 in absolute value.
+    /// -3 to 3, translations at most 1,000,000 in absolute value. A product of operations of one group
+    /// has small entries again, so that products chain while the translations stay in bounds.
     pub fn compose(self, other: Op) -> Op
         requires left { IsSmallRotation self.rot }
         requires left_shift { IsShiftWithin 1000000 self.shift }
         requires right { IsSmallRotation other.rot }
         requires right_shift { IsShiftWithin 1000000 other.shift }
         ensures product { result ≡ product_of self other }
-        ensures near { IsShiftWithin 55000000 result.shift }
+        ensures entries { IsRotationWithin 27 result.rot }
+        ensures near { (m n : ℕ) → IsShiftWithin m self.shift → IsShiftWithin n other.shift → IsShiftWithin (m + 9 * n) result.shift }
     {
         Op {
             rot: rotation_product(self.rot, other.rot),
@@ -50,12 +58,37 @@ impl Op {
         requires shift { IsShiftWithin 1000000 self.shift }
         requires unimodular { IsUnimodular (matrix_of self.rot) }
         ensures inverse { result ≡ inverse_of self }
-        ensures near { IsShiftWithin 54000000 result.shift }
+        ensures before { product_of result self ≡ identity_op }
+        ensures after { product_of self result ≡ identity_op }
+        ensures entries { IsRotationWithin 18 result.rot }
+        ensures unimodular { IsUnimodular (matrix_of result.rot) }
+        ensures near { (e n : ℕ) → IsRotationWithin e result.rot → IsShiftWithin n self.shift → IsShiftWithin (3 * (e * n)) result.shift }
     {
         let rot = inverse_rotation(self.rot);
         Op {
             rot,
             shift: negative_shift(moved(rot, self.shift)),
         }
+    }
+
+    /// The determinant of the rotation. Condition: entries from -3 to 3.
+    pub fn det(self) -> i32
+        requires { IsSmallRotation self.rot }
+        ensures { result ≡ determinant whole (matrix_of self.rot) }
+    {
+        determinant_of(self.rot)
+    }
+
+    /// The operation with its translation modulo 1, from 0 to 11 twelfths along each axis, as
+    /// `Group::close` wants it.
+    pub fn reduced(self) -> Op
+        ensures rot { result.rot ≡ self.rot }
+        ensures shift { result.shift ≡ shift_of (reduced_vector (vector_of self.shift)) }
+        ensures in_cell { IsInCell (vector_of result.shift) }
+        ensures same { (lattice : Lattice) → IsSameUpToLattice lattice (seitz_of result) (seitz_of self) }
+    {
+        let rot = self.rot;
+        let shift = reduced_shift(self.shift);
+        Op { rot, shift }
     }
 }

@@ -3,6 +3,7 @@
 -- number-back: the number of an inverse
 -- HasNumberWord s g: the number of g is a word over the numbers of the motions
 -- member-word: each member's number is one
+-- generators-below: the generators are elements
 -- generators-generate: the generators generate the quotient
 use Rattle.std.proofs.Common.{◌≡◌, refl, sym, ap, ◌∙◌, subst, ℕ, zero, suc, ◌<◌, inl, inr, ℤ, pos, negsuc, ◌+ℤ◌, ◌*ℤ◌, neg_ℤ, List, [], ◌∷◌, length, slice_index_or, arith}
 use Rattle.std.proofs.lemmas.Int.{ints}
@@ -103,29 +104,29 @@ module _ (s : SupercellGroup) (quotient : IsQuotient s) where
   number-motion : (j : ℕ) → j < length (motions_of s) → number_at j ≡ number_of s (motion_at (motions_of s) j)
   number-motion j l = get_or-map (number_of s) (motions_of s) j (seitz_identity whole) 0 l
 
-  below : (i : ℕ) → i < length (generators_of s) → number_at i < order_of s
-  below i l =
+  pub generators-below : (i : ℕ) → i < length (generators_of s) → number_at i < order_of s
+  generators-below i l =
       let m : i < length (motions_of s) = omega (arith, length-map (motions_of s) (number_of s)) in
       subst (λ n. n < order_of s) (sym (number-motion i m)) (numbered.number-below (motion_at (motions_of s) i) (motion-member s i m))
 
   motion-word : (g : Seitz ℤ) → IsMotion (motions_of s) g → HasNumberWord g
   motion-word g (j, l, e) =
       subst (HasWord (quotient_group s) (length (generators_of s)) number_at) (number-motion j l ∙ ap (number_of s) e)
-      (generator-word (quotient_group s) law (length (generators_of s)) number_at below j (omega (arith, length-map (motions_of s) (number_of s))))
+      (generator-word (quotient_group s) law (length (generators_of s)) number_at generators-below j (omega (arith, length-map (motions_of s) (number_of s))))
 
   product-number : (g h : Seitz ℤ) → IsMember s g → IsMember s h → HasNumberWord g → HasNumberWord h → HasNumberWord (seitz_product whole g h)
   product-number g h m n v w =
       subst (HasWord (quotient_group s) (length (generators_of s)) number_at) (number-product s quotient g h m n)
-      (product-word (quotient_group s) law (length (generators_of s)) number_at below (number_of s g) (number_of s h) v w)
+      (product-word (quotient_group s) law (length (generators_of s)) number_at generators-below (number_of s g) (number_of s h) v w)
 
   back-number : (g h : Seitz ℤ) → IsMember s g → IsMember s h → seitz_product whole g h ≡ seitz_identity whole → HasNumberWord g → HasNumberWord h
   back-number g h m n e w =
       subst (HasWord (quotient_group s) (length (generators_of s)) number_at) (number-back g h m n e)
-      (inverse-word (quotient_group s) law (length (generators_of s)) number_at below (number_of s g) (numbered.number-below g m) w)
+      (inverse-word (quotient_group s) law (length (generators_of s)) number_at generators-below (number_of s g) (numbered.number-below g m) w)
 
   identity-number : HasNumberWord (seitz_identity whole)
   identity-number =
-      subst (HasWord (quotient_group s) (length (generators_of s)) number_at) (sym (number-identity s quotient)) (identity-word (quotient_group s) law (length (generators_of s)) number_at below)
+      subst (HasWord (quotient_group s) (length (generators_of s)) number_at) (sym (number-identity s quotient)) (identity-word (quotient_group s) law (length (generators_of s)) number_at generators-below)
 
   -- v is a lattice vector, and its translation's number is a word
   record IsReached (v : Vector ℤ) : Type 0 where
@@ -187,5 +188,5 @@ module _ (s : SupercellGroup) (quotient : IsQuotient s) where
 
   pub generators-generate : IsGenerated (quotient_group s) (length (generators_of s)) (λ i. slice_index_or (generators_of s) i 0)
   generators-generate =
-      words-generate (quotient_group s) law (length (generators_of s)) number_at below
+      words-generate (quotient_group s) law (length (generators_of s)) number_at generators-below
       (λ a l. subst (HasWord (quotient_group s) (length (generators_of s)) number_at) (numbered.number-element a l) (member-word (element_of s a) (numbered.element-member a l)))

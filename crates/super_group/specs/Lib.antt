@@ -1,4 +1,6 @@
 pub mod CountLaws
+pub mod ElementLaws
+pub mod Elements
 pub mod FirstAxes
 pub mod FirstAxesLaws
 pub mod GeneratorLaws

@@ -1,5 +1,6 @@
 -- Laws of a group modulo a supercell.
 --
+-- row_below: the place of a row and a column
 -- element-member, element-inside: an element is a member, inside the supercell
 -- number-below, element-number: a member's number is that of the one element that it is
 -- quotient-numbered: numbers and elements belong to each other
@@ -38,7 +39,7 @@ move_right : (t v a : Vector ℤ) → vector_difference v (vector_difference a t
 move_right t v a = same_vector _ _ (omega (arith, ints)) (omega (arith, ints)) (omega (arith, ints))
 
 -- the place of row r and column t, for rows of T places
-row_below : (R T r t : ℕ) → r < R → t < T → r * T + t < R * T
+pub row_below : (R T r t : ℕ) → r < R → t < T → r * T + t < R * T
 row_below R T r t l m = let k : r * T + t < T * R = mul-add-lt r T t R l m in let c : T * R ≡ R * T = omega arith in omega (arith, k, c)
 
 some_columns : (R T q : ℕ) → q < R * T → 0 < T

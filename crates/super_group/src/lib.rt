@@ -10,8 +10,10 @@
 mod denominators;
 mod inside;
 mod joined;
+mod laws;
 mod quotient;
 mod translations;
 
 pub use denominators::{are_denominators, multipliers};
+pub use laws::law_of_elements;
 pub use quotient::{MAX_ORDER, Quotient, QuotientError};

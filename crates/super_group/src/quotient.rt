@@ -112,9 +112,10 @@ impl Quotient {
         &self.group
     }
 
-    /// The number of elements: rotations times centrings times cells.
+    /// The number of elements: rotations times centrings times cells, at most 6,144.
     pub fn order(&self) -> usize
         ensures value { result ≡ order_of self.now }
+        ensures few { result ≤ 6144 }
         ensures cells { result ≡ order_in self.now.parent self.now.d }
         ensures quotient { IsQuotient self.now }
         ensures numbered { IsNumbered self.now }
@@ -197,6 +198,7 @@ impl Quotient {
     /// the three unit translations.
     pub fn generators(&self) -> ArrayVec<usize, 11>
         ensures numbers { result.items ≡ generators_of self.now }
+        ensures below { (i : ℕ) → i < length result.items → slice_index_or result.items i 0 < order_of self.now }
         ensures generate { IsGenerated (quotient_group self.now) (length result.items) (λ i. slice_index_or result.items i 0) }
     {
         let motions = motions_in(&self.group);

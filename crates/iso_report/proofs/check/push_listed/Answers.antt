@@ -12,7 +12,7 @@ loop-i-preserved c =
     let inside : i < length ops = omega (arith, c.loop-i.invariant.end) in
     record {
       end = c.loop-i.invariant.end;
-      text = c.in_ok-push.ensures.ok ∙ ap (λ t. c.loop-i.text ++ t) (c.as_slice.ensures ∙ c.in_ok-added.ensures ∙ ap listed_line c.op.ensures) ∙ ap (λ t. t ++ listed_line (get_or ops i identity_op)) c.loop-i.invariant.text
+      text = c.in_ok-push.ensures.ok ∙ ap (λ t. c.loop-i.text ++ t) (c.as_slice.ensures ∙ c.in_ok-added.ensures ∙ ap listed_line c.op.ensures.value) ∙ ap (λ t. t ++ listed_line (get_or ops i identity_op)) c.loop-i.invariant.text
           ∙ append_assoc c.args.text.now (flat_map listed_line (take i ops)) (listed_line (get_or ops i identity_op)) ∙ ap (λ t. c.args.text.now ++ t) (sym (flat_map_more listed_line ops i identity_op inside));
     }
 

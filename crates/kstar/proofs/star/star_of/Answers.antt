@@ -13,4 +13,4 @@ returns-clause-star c =
     let p = c.args.group.now in
     let k = vector_of c.args.row in
     ok_same c.star_of_rows.result
-    (λ (s : WaveStar). star-is p k c.deref.result.now (subst (AreAllImages p k _) (sym c.deref.ensures.value) c.in-Ok.ensures.value) c.lattice.result s c.lattice.ensures) c.star_of_rows.ensures
+    (λ (s : WaveStar). star-is p k c.deref.result.now (subst (AreAllImages p k _) (sym c.deref.ensures.value) c.in-Ok.ensures.value) c.lattice.result s c.lattice.ensures.value) c.star_of_rows.ensures

@@ -1,4 +1,4 @@
-use Rattle.std.proofs.Common.{rules, ℤ, [], ◌∷◌, ◌≡◌}
+use Rattle.std.proofs.Common.{rules}
 use Rattle.algebra.specs.ListLaws.{same_three}
 use Rattle.space_ops.specs.Op.{number_at, row_at}
 use Rattle.space_ops.proofs.Passed.{passed_row_times}

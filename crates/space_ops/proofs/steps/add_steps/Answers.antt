@@ -1,11 +1,12 @@
-use Rattle.std.proofs.Common.{◌≡◌, refl, sym, ap, ◌∙◌, subst, List, [], ◌∷◌, ◌++◌, true, false, arith}
+use Rattle.std.proofs.Common.{◌≡◌, refl, sym, ap, ◌∙◌, subst, List, [], ◌∷◌, ◌++◌, true, false, ◌*◌, arith}
 use Rattle.space_ops.specs.declared.op.Op.{Op}
 use Rattle.algebra.specs.Whole.{whole}
 use Rattle.space_ops.specs.Seitz.{Seitz, seitz_inverse}
 use Rattle.space_ops.specs.Op.{seitz_of, inverse_of, IsSmallMatrix}
 use Rattle.space_ops.specs.OpLaws.{seitz_of-inverse_of}
 use Rattle.space_ops.specs.LeastShift.{IsLeastOp}
-use Rattle.space_ops.proofs.Bounds.{row_more}
+use Rattle.space_ops.specs.LeastShiftLaws.{cell-within}
+use Rattle.space_ops.specs.WithinLaws.{shift_more}
 use Rattle.space_ops.proofs.steps.add_steps.Goals as goal
 
 -- what the code's inverse stands for
@@ -23,7 +24,9 @@ returns-then-not-is_small-clause-err c = (
 )
 
 pub least_op-requires-2 : goal.least_op-requires-2
-least_op-requires-2 c = row_more 54000000 60000000 c.inverse-inverse.result.shift (omega arith) c.inverse-inverse.ensures.near
+least_op-requires-2 c =
+    shift_more (3 * (18 * 11)) 60000000 c.inverse-inverse.result.shift (omega arith)
+    (c.inverse-inverse.ensures.near 18 11 c.inverse-inverse.ensures.entries (cell-within c.args.generator.shift c.requires.in_cell))
 
 pub returns-clause-ok : goal.returns-clause-ok
 returns-clause-ok c =

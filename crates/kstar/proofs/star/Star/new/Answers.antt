@@ -29,7 +29,15 @@ returns-in-Ok-clause-orders c = star-orders c.args.group.now c.in-Ok.ensures.gro
 pub returns-in-Ok-clause-subgroup : goal.returns-in-Ok-clause-subgroup
 returns-in-Ok-clause-subgroup c = star-subgroup c.args.group.now c.in-Ok.ensures.group (row_of c.args.k) c.in-Ok.star (star-of c)
 
+pub star_of-requires-clause-phases : goal.star_of-requires-clause-phases
+star_of-requires-clause-phases c = subst (λ (l : Lattice). HasPhases l (vector_of c.row-row.result)) c.lattice.ensures.value c.in_default.ensures
+
+pub returns-in-Ok-clause-phases : goal.returns-in-Ok-clause-phases
+returns-in-Ok-clause-phases c =
+    subst (λ (k : Vector ℤ). HasPhases c.args.group.now.lattice k) (ap vector_of c.row-row.ensures.value)
+    (subst (λ (l : Lattice). HasPhases l (vector_of c.row-row.result)) c.lattice.ensures.value c.in_default.ensures)
+
 pub returns-in-Err-clause-memory : goal.returns-in-Err-clause-memory
 returns-in-Err-clause-memory c e =
     subst (λ (k : Vector ℤ). HasPhases c.args.group.now.lattice k) (ap vector_of c.row-row.ensures.value)
-    (subst (λ (l : Lattice). HasPhases l (vector_of c.row-row.result)) c.lattice.ensures c.in_default.ensures)
+    (subst (λ (l : Lattice). HasPhases l (vector_of c.row-row.result)) c.lattice.ensures.value c.in_default.ensures)

@@ -14,7 +14,7 @@ sum_inside-shift-requires-clause-left c =
     let count : c.len-count.result ≡ length c.self.inside.translations.items = search rules in
     let l = subst (λ (s : SupercellGroup). c.args.q < order_of s) (sym c.self.view_is) c.requires in
     listed_within (view_of c.self.inside) c.self.invariant.quotient _
-    (rotation_below (view_of c.self.inside) c.self.invariant.quotient c.args.q l c.len-count.result count) c.op-listed.result c.op-listed.ensures
+    (rotation_below (view_of c.self.inside) c.self.invariant.quotient c.args.q l c.len-count.result count) c.op-listed.result c.op-listed.ensures.value
 
 pub sum_inside-shift-requires-clause-right : goal.sum_inside-shift-requires-clause-right
 sum_inside-shift-requires-clause-right c =
@@ -30,7 +30,7 @@ returns-clause-element c =
     let l = subst (λ (s : SupercellGroup). c.args.q < order_of s) (sym c.self.view_is) c.requires in
     let m = translation_below (view_of c.self.inside) c.self.invariant.quotient c.args.q l c.len-count.result count in
     subst (λ (s : SupercellGroup). (let o : Op = record { rot = c.op-listed.result.rot; shift = c.sum_inside-shift.result } in o) ≡ op_of (element_of s c.args.q)) c.self.view_is
-    (element_is (view_of c.self.inside) c.self.invariant.quotient c.args.q l c.len-count.result count c.op-listed.result c.op-listed.ensures c.index.result.now
+    (element_is (view_of c.self.inside) c.self.invariant.quotient c.args.q l c.len-count.result count c.op-listed.result c.op-listed.ensures.value c.index.result.now
     (c.index.ensures ∙ get_or_default c.self.inside.translations.items (c.args.q % c.len-count.result) c.index.result.now [] m) c.sum_inside-shift.result c.sum_inside-shift.ensures)
 
 pub returns-clause-member : goal.returns-clause-member

@@ -3,8 +3,8 @@ use Rattle.std.proofs.lemmas.List.{take_all}
 use Rattle.space_ops.specs.declared.op.Op.{Op}
 use Rattle.space_ops.specs.Op.{seitz_of}
 use Rattle.algebra.specs.NumberedGroup.{IsGenerated}
-use Rattle.super_group.specs.Quotient.{SupercellGroup, IsQuotient, IsMember, number_of, quotient_group, generators_of}
-use Rattle.super_group.specs.GeneratorLaws.{generators-generate}
+use Rattle.super_group.specs.Quotient.{SupercellGroup, IsQuotient, IsMember, order_of, number_of, quotient_group, generators_of}
+use Rattle.super_group.specs.GeneratorLaws.{generators-below, generators-generate}
 use Rattle.super_group.specs.QuotientParts.{motion_ops}
 use Rattle.super_group.proofs.MotionLemmas.{motion-member, numbers-motions}
 use Rattle.super_group.proofs.quotient.Quotient.generators.Goals as goal
@@ -25,5 +25,7 @@ returns c =
     c.loop-motion.invariant ∙ ap (map (λ op. number_of c.args.self.now (seitz_of op))) (take_all c.loop-motion.motion-index c.as_slice-motion-items.result.now c.loop-motion-test.false ∙ e) ∙ numbers-motions c.args.self.now in
     record {
       numbers = listed;
+      below = subst (λ (is : List ℕ). (i : ℕ) → i < length is → get_or is i 0 < order_of c.args.self.now) (sym listed)
+          (generators-below c.args.self.now (subst IsQuotient c.self.view_is c.self.invariant.quotient));
       generate = subst (λ (is : List ℕ). IsGenerated (quotient_group c.args.self.now) (length is) (λ i. get_or is i 0)) (sym listed) (generators-generate c.args.self.now (subst IsQuotient c.self.view_is c.self.invariant.quotient));
     }

@@ -13,7 +13,7 @@ few_elements rotations centrings cells count order e f l = let k : rotations * c
 pub invariant_of-result : goal.invariant_of-result
 invariant_of-result c =
     let held : AreTranslations c.args.group.lattice c.args.d c.in-Ok.translations.items =
-    subst (λ (lattice : Lattice). AreTranslations lattice c.args.d c.in-Ok.translations.items) c.lattice.ensures c.in-Ok.ensures in
+    subst (λ (lattice : Lattice). AreTranslations lattice c.args.d c.in-Ok.translations.items) c.lattice.ensures.value c.in-Ok.ensures in
     record {
       quotient = record { parent = subst IsParentGroup c.group.view_is c.group.invariant; supercell = c.requires; translations = held };
       few = few_elements (length c.args.group.ops) (length (centrings_of c.args.group.lattice)) (multiplier c.args.d 0 * multiplier c.args.d 1 * multiplier c.args.d 2)

@@ -13,7 +13,7 @@ pub rest_inside-rest-requires-clause-other : goal.rest_inside-rest-requires-clau
 rest_inside-rest-requires-clause-other c =
     listed_within (view_of c.self.inside) c.self.invariant.quotient c.rotation_number-rotation.result
     (subst (λ (s : SupercellGroup). c.rotation_number-rotation.result < length s.parent.ops) (sym c.self.view_is) c.rotation_number-rotation.ensures.below)
-    c.op-listed.result c.op-listed.ensures
+    c.op-listed.result c.op-listed.ensures.value
 
 pub place_in-requires-clause-rising : goal.place_in-requires-clause-rising
 place_in-requires-clause-rising c =
@@ -25,7 +25,7 @@ place_in-requires-clause-listed c =
     let m = subst (λ (s : SupercellGroup). IsMember s (seitz_of c.args.op)) (sym c.self.view_is) c.requires in
     let r = subst (λ (s : SupercellGroup). c.rotation_number-rotation.result ≡ place_of s.parent.ops (matrix_of c.args.op.rot)) (sym c.self.view_is) c.rotation_number-rotation.ensures.place in
     subst (λ (ts : List (List ℤ)). IsAmong ts (vector_of c.rest_inside-rest.result)) (sym c.deref.ensures.value)
-    (rest_among (view_of c.self.inside) c.self.invariant.quotient c.args.op m c.rotation_number-rotation.result r c.op-listed.result c.op-listed.ensures c.rest_inside-rest.result
+    (rest_among (view_of c.self.inside) c.self.invariant.quotient c.args.op m c.rotation_number-rotation.result r c.op-listed.result c.op-listed.ensures.value c.rest_inside-rest.result
     c.rest_inside-rest.ensures)
 
 pub returns-clause-number : goal.returns-clause-number
@@ -34,7 +34,7 @@ returns-clause-number c =
     let m = subst (λ (s : SupercellGroup). IsMember s (seitz_of c.args.op)) (sym c.self.view_is) c.requires in
     let r = subst (λ (s : SupercellGroup). c.rotation_number-rotation.result ≡ place_of s.parent.ops (matrix_of c.args.op.rot)) (sym c.self.view_is) c.rotation_number-rotation.ensures.place in
     subst (λ (s : SupercellGroup). c.rotation_number-rotation.result * c.len.result + c.place_in.result ≡ number_of s (seitz_of c.args.op)) c.self.view_is
-    (number_is (view_of c.self.inside) c.self.invariant.quotient c.args.op m c.rotation_number-rotation.result r c.op-listed.result c.op-listed.ensures c.rest_inside-rest.result
+    (number_is (view_of c.self.inside) c.self.invariant.quotient c.args.op m c.rotation_number-rotation.result r c.op-listed.result c.op-listed.ensures.value c.rest_inside-rest.result
     c.rest_inside-rest.ensures c.len.result c.place_in.result count
     (c.place_in.ensures.value ∙ ap (λ (ts : List (List ℤ)). place_among ts (vector_of c.rest_inside-rest.result)) c.deref.ensures.value))
 
@@ -44,6 +44,6 @@ returns-clause-same c =
     let m = subst (λ (s : SupercellGroup). IsMember s (seitz_of c.args.op)) (sym c.self.view_is) c.requires in
     let r = subst (λ (s : SupercellGroup). c.rotation_number-rotation.result ≡ place_of s.parent.ops (matrix_of c.args.op.rot)) (sym c.self.view_is) c.rotation_number-rotation.ensures.place in
     subst (λ (s : SupercellGroup). IsSameElement s.d (element_of s (c.rotation_number-rotation.result * c.len.result + c.place_in.result)) (seitz_of c.args.op)) c.self.view_is
-    (number_same (view_of c.self.inside) c.self.invariant.quotient c.args.op m c.rotation_number-rotation.result r c.op-listed.result c.op-listed.ensures c.rest_inside-rest.result
+    (number_same (view_of c.self.inside) c.self.invariant.quotient c.args.op m c.rotation_number-rotation.result r c.op-listed.result c.op-listed.ensures.value c.rest_inside-rest.result
     c.rest_inside-rest.ensures c.len.result c.place_in.result count
     (c.place_in.ensures.value ∙ ap (λ (ts : List (List ℤ)). place_among ts (vector_of c.rest_inside-rest.result)) c.deref.ensures.value))

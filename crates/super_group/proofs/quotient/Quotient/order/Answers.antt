@@ -1,5 +1,5 @@
-use Rattle.std.proofs.Common.{◌≡◌, ◌*◌, ◌∙◌, subst, rules}
-use Rattle.super_group.specs.Quotient.{IsQuotient, order_of}
+use Rattle.std.proofs.Common.{◌≡◌, ◌*◌, ◌≤◌, ◌∙◌, sym, subst, rules}
+use Rattle.super_group.specs.Quotient.{SupercellGroup, IsQuotient, order_of}
 use Rattle.super_group.specs.QuotientLaws.{quotient-numbered, quotient-lawful}
 use Rattle.super_group.specs.CountLaws.{order-cells}
 use Rattle.super_group.proofs.quotient.Quotient.order.Goals as goal
@@ -14,3 +14,8 @@ pub returns-clause-cells : goal.returns-clause-cells
 returns-clause-cells c =
     let value : c.len.result * c.len-2.result ≡ order_of c.args.self.now = search rules in
     value ∙ order-cells c.args.self.now (subst IsQuotient c.self.view_is c.self.invariant.quotient)
+
+pub returns-clause-few : goal.returns-clause-few
+returns-clause-few c =
+    let value : c.len.result * c.len-2.result ≡ order_of c.args.self.now = search rules in
+    subst (λ n. n ≤ 6144) (sym value) (subst (λ (s : SupercellGroup). order_of s ≤ 6144) c.self.view_is c.self.invariant.few)
