@@ -5,8 +5,8 @@ ghost use Rattle.cyclo24.specs.ExactK24.{k24};
 ghost use Rattle.lin_alg.specs.Action.{Action, IsAction, IsFixed};
 ghost use Rattle.number_tests.specs.SignAction.{sign_action, sign_value};
 
-use lin_alg::{Acts, fixed_vectors, images};
 use cyclo24::{Field, K24, Wide};
+use lin_alg::{Acts, fixed_vectors, images};
 use std::test::Fail;
 
 #[derive(Drop)]
