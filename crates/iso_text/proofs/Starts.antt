@@ -1,5 +1,5 @@
 -- A run over lines against the definitions of a file and a start.
-use Rattle.std.proofs.Common.{◌≡◌, ℕ, ◌+◌, ◌≤◌, List, [], ◌∷◌, ◌++◌, length, filter, take, drop, Option, Some, None, refl, sym, ◌∙◌, ap, subst, arith, inl, inr, length-append}
+use Rattle.std.proofs.Common.{◌≡◌, ℕ, ◌+◌, ◌≤◌, List, [], ◌∷◌, ◌++◌, length, filter, take, drop, Option, Some, None, refl, sym, ◌∙◌, ap, subst, arith, inl, inr, length-append, Bool, true, if◌then◌else◌}
 use Rattle.std.specs.Prelude.{option_and_then}
 use Rattle.std.specs.List.{list_all}
 use Rattle.std.proofs.lemmas.List.Folds.{list_all-append}
@@ -7,13 +7,14 @@ use Rattle.iso_text.specs.Draft.{draft, next_of, begin, finished, Refuses}
 use Rattle.iso_text.specs.File.{IsFile, IsStart, IsBadAfter, HasCause}
 use Rattle.iso_text.specs.FileLines.{file_lines}
 use Rattle.iso_text.specs.FileValue.{File}
-use Rattle.iso_text.specs.LineKinds.{kind_of}
+use Rattle.iso_text.specs.LineKinds.{kind_of, or_bad, said_by}
 use Rattle.iso_text.specs.LineSpellings.{SayLines}
-use Rattle.iso_text.specs.Lines.{lines_of}
+use Rattle.iso_text.specs.Lines.{lines_of, is_skipped, is_text, unindented}
 use Rattle.iso_text.specs.declared.draft.Draft.{Draft}
 use Rattle.iso_text.specs.declared.draft.Stage.{Stage}
 use Rattle.iso_text.specs.declared.draft.Stage.TheVariants as stage
 use Rattle.iso_text.specs.declared.line_kinds.Line.{Line}
+use Rattle.iso_text.specs.declared.line_kinds.Line.TheVariants.{Skip, Bad}
 use Rattle.iso_text.specs.declared.read_error.ReadError.{ReadError}
 use Rattle.iso_text.specs.declared.read_error.ReadError.TheVariants.{BadText, NoMemory}
 use Rattle.iso_text.proofs.BodyLemmas.{both}
@@ -131,3 +132,8 @@ none_left (c ∷ rest) empty = absurd (omega arith)
 
 pub at_end : (lines : List (List ℕ)) (n : ℕ) (d : Draft) (rest : List ℕ) → Stands lines n d (lines_of rest) → length rest ≡ 0 → Stands lines n d []
 at_end lines n d rest stands empty = record { run = stands.run; rest = stands.rest ∙ none_left rest empty; within = stands.within }
+
+-- a skipped line changes nothing
+pub stands_skipped : (lines : List (List ℕ)) (n : ℕ) (d : Draft) (line : List ℕ) (left lines_left : List (List ℕ)) → Stands lines n d left → left ≡ line ∷ lines_left → is_skipped line ≡ true → Stands lines (n + 1) d lines_left
+stands_skipped lines n d line left lines_left stands first skipped =
+    stands_next lines n d d line left lines_left stands first (ap (λ b. next_of d (if b then Skip else (if is_text line then or_bad (said_by (n + 1) (unindented line)) else Bad))) skipped)

@@ -1,10 +1,10 @@
 // The draft with one line more.
-ghost use Rattle.std.specs.Prelude.{◌≡◌, IfOk};
-ghost use Rattle.iso_text.specs.Draft.{settled, on_head, on_hall, on_lattice, on_op, on_k, takes_mat, on_mat, on_vector, next_of};
+ghost use Rattle.std.specs.Prelude.{◌≡◌, IfOk, Some, None, if◌then◌else◌, option_and_then};
+ghost use Rattle.iso_text.specs.Draft.{settled, on_head, on_hall, on_lattice, on_op, on_k, takes_mat, on_mat, on_vector, on_section, next_of};
 
 use crate::NoMemory;
 use crate::document::Document;
-use crate::draft::{Draft, Stage, at};
+use crate::draft::{Draft, Stage, at, begin};
 use crate::line_kinds::Line;
 use crate::list::TextList;
 use crate::numbers::Frac;
@@ -12,6 +12,7 @@ use crate::section_steps::on_section;
 use crate::sections::{IrrepText, MatText, OpLine, OpsText, VectorText};
 use crate::text::Text;
 use std::alloc::Global;
+use std::mem::replace;
 
 /// The most `mat` lines of an irrep block.
 pub const MAX_MATS: usize = 96;
@@ -19,28 +20,43 @@ pub const MAX_MATS: usize = 96;
 /// The most `op` lines of a file.
 pub const MAX_OPS: usize = 5;
 
-// The document with the open parent or block in it, where a line of another section may follow.
-fn settled(stage: Stage, document: Document) -> Result<Option<Document>, NoMemory>
-    ensures { IfOk result (λ d. d ≡ settled stage document) }
+// Puts the open parent or block into the document, where a line of another section may follow, and
+// says whether one may.
+fn settle(draft: &mut Draft) -> Result<bool, NoMemory>
+    ensures { IfOk result (λ may. settled draft.old.stage draft.old.document ≡ (if may then Some draft.new.document else None)) }
 {
-    let mut document = document;
-    match stage {
-        Stage::Body => Ok(Some(document)),
+    if let Stage::Body = draft.stage {
+        return Ok(true);
+    }
+    match replace(&mut draft.stage, Stage::Body) {
         Stage::Lattice(line, generators) => {
             if generators.ops.as_slice().is_empty() {
-                return Ok(None);
+                return Ok(false);
             }
-            document.set_generators(line, generators);
-            Ok(Some(document))
+            draft.document.set_generators(line, generators);
+            Ok(true)
         }
         Stage::Block(irrep) => {
             if irrep.mats.as_slice().is_empty() {
-                return Ok(None);
+                return Ok(false);
             }
-            document.push_irrep(irrep)?;
-            Ok(Some(document))
+            draft.document.push_irrep(irrep)?;
+            Ok(true)
         }
-        _ => Ok(None),
+        _ => Ok(false),
+    }
+}
+
+// Goes on with the draft, where there is one, and says whether.
+fn go_on(draft: &mut Draft, next: Option<Draft>) -> bool
+    ensures { next ≡ (if result then Some draft.new else None) }
+{
+    match next {
+        Some(next) => {
+            *draft = next;
+            true
+        }
+        None => false,
     }
 }
 
@@ -166,24 +182,65 @@ fn on_vector(vector: VectorText, stage: Stage, document: Document) -> Option<Dra
     }
 }
 
-/// The draft with the line, or None where the line can't stand there.
-pub fn next(alloc: Global, draft: Draft, line: Line) -> Result<Option<Draft>, NoMemory>
-    ensures { IfOk result (λ next. next ≡ next_of draft line) }
+// Takes the draft out; nothing read is left in its place.
+fn taken(alloc: Global, draft: &mut Draft) -> Draft
+    ensures { result ≡ draft.old }
 {
-    let Draft { stage, document } = draft;
+    replace(draft, begin(alloc))
+}
+
+// Goes on with a line of a section, or the end.
+fn go_on_with_section(draft: &mut Draft, line: &Line) -> Result<bool, NoMemory>
+    ensures { IfOk result (λ took. option_and_then (on_section line.now) (settled draft.old.stage draft.old.document) ≡ (if took then Some draft.new else None)) }
+{
+    if !settle(draft)? {
+        return Ok(false);
+    }
+    match on_section(line, &mut draft.document)? {
+        Some(stage) => {
+            draft.stage = stage;
+            Ok(true)
+        }
+        None => Ok(false),
+    }
+}
+
+/// Goes on with the line, and says whether it can stand there. A draft that has refused a line, or
+/// met want of memory, is of no further use.
+pub fn next(alloc: Global, draft: &mut Draft, line: Line) -> Result<bool, NoMemory>
+    ensures { IfOk result (λ took. next_of draft.old line ≡ (if took then Some draft.new else None)) }
+{
     match line {
-        Line::Skip => Ok(at(stage, document)),
-        Line::Bad => Ok(None),
-        Line::Head(format) => Ok(on_head(alloc, format, stage)),
-        Line::Hall(number, text) => Ok(on_hall(number, text, stage, document)),
-        Line::Lattice(number, letter) => Ok(on_lattice(alloc, number, letter, stage, document)),
-        Line::Op(op) => on_op(op, stage, document),
-        Line::K(k) => Ok(on_k(alloc, k, stage, document)),
-        Line::Mat(mat) => on_mat(mat, stage, document),
-        Line::RealVector(vector) => Ok(on_vector(vector, stage, document)),
-        other => match settled(stage, document)? {
-            None => Ok(None),
-            Some(document) => on_section(&other, document),
-        },
+        Line::Skip => Ok(true),
+        Line::Bad => Ok(false),
+        Line::Head(format) => {
+            let Draft { stage, document: _ } = taken(alloc, draft);
+            Ok(go_on(draft, on_head(alloc, format, stage)))
+        }
+        Line::Hall(number, text) => {
+            let Draft { stage, document } = taken(alloc, draft);
+            Ok(go_on(draft, on_hall(number, text, stage, document)))
+        }
+        Line::Lattice(number, letter) => {
+            let Draft { stage, document } = taken(alloc, draft);
+            Ok(go_on(draft, on_lattice(alloc, number, letter, stage, document)))
+        }
+        Line::Op(op) => {
+            let Draft { stage, document } = taken(alloc, draft);
+            Ok(go_on(draft, on_op(op, stage, document)?))
+        }
+        Line::K(k) => {
+            let Draft { stage, document } = taken(alloc, draft);
+            Ok(go_on(draft, on_k(alloc, k, stage, document)))
+        }
+        Line::Mat(mat) => {
+            let Draft { stage, document } = taken(alloc, draft);
+            Ok(go_on(draft, on_mat(mat, stage, document)?))
+        }
+        Line::RealVector(vector) => {
+            let Draft { stage, document } = taken(alloc, draft);
+            Ok(go_on(draft, on_vector(vector, stage, document)))
+        }
+        other => go_on_with_section(draft, &other),
     }
 }

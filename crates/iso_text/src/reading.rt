@@ -1,5 +1,5 @@
 // Reading a file's bytes.
-ghost use Rattle.std.specs.Prelude.{◌≡◌, ◌≤◌, ◌<◌, ◌+◌, ◌^◌, length, IfOk, IfErr, Some, MatchResult};
+ghost use Rattle.std.specs.Prelude.{◌≡◌, ◌≤◌, ◌<◌, ◌+◌, ◌^◌, length, IfOk, IfErr, OnOk, Some, MatchResult};
 ghost use Rattle.iso_text.specs.Draft.{next_of, Refuses};
 ghost use Rattle.iso_text.specs.File.{IsFile, HasCause};
 ghost use Rattle.iso_text.specs.FileValue.{File};
@@ -11,23 +11,23 @@ use crate::document::Document;
 use crate::draft::{Draft, begin, finished};
 use crate::line_steps::next;
 use crate::line_words::read_line;
-use crate::lines::first_line;
+use crate::lines::{first_line, is_skipped};
 use crate::read_error::ReadError;
 use crate::source::MAX_BYTES;
 use std::alloc::Global;
 
-// The draft with the line of this number.
-fn take_line(alloc: Global, draft: Draft, number: u32, line: &[u8]) -> Result<Draft, ReadError>
-    ensures ok { IfOk result (λ d. next_of draft (kind_of number line.now) ≡ Some d) }
-    ensures err { IfErr result (λ e. Refuses draft number line.now e) }
+// Goes on with the line of this number.
+fn take_line(alloc: Global, draft: &mut Draft, number: u32, line: &[u8]) -> Result<(), ReadError>
+    ensures ok { OnOk result (next_of draft.old (kind_of number line.now) ≡ Some draft.new) }
+    ensures err { IfErr result (λ e. Refuses draft.old number line.now e) }
 {
     let kind = match read_line(alloc, number, line) {
         Ok(kind) => kind,
         Err(_) => return Err(ReadError::NoMemory),
     };
     match next(alloc, draft, kind) {
-        Ok(Some(draft)) => Ok(draft),
-        Ok(None) => Err(ReadError::BadText(number)),
+        Ok(true) => Ok(()),
+        Ok(false) => Err(ReadError::BadText(number)),
         Err(_) => Err(ReadError::NoMemory),
     }
 }
@@ -44,11 +44,14 @@ fn read_lines(alloc: Global, bytes: &[u8]) -> Result<Document, ReadError>
     while !rest.is_empty() {
         let (line, behind) = first_line(rest);
         number += 1;
-        match take_line(alloc, draft, number, line) {
-            Ok(next) => draft = next,
+        rest = behind;
+        if is_skipped(line) {
+            continue;
+        }
+        match take_line(alloc, &mut draft, number, line) {
+            Ok(()) => {}
             Err(error) => return Err(error),
         }
-        rest = behind;
     }
     match finished(draft) {
         Some(document) => Ok(document),

@@ -1,13 +1,14 @@
 // The lines of the sections behind the parent: which of them may stand next.
 ghost use Rattle.std.specs.Prelude.{◌≡◌, ◌<◌, ◌==◌, IfOk, IfSome};
+ghost use Rattle.std.specs.Option.{option_map};
 ghost use Rattle.std.specs.List.{list_all};
-ghost use Rattle.iso_text.specs.Draft.{on_irrep, has_room, section_takes, section_of, with_line, on_section};
+ghost use Rattle.iso_text.specs.Draft.{draft, on_irrep, has_room, section_takes, section_of, with_line, on_section};
 ghost use Rattle.iso_text.specs.File.{is_new};
 ghost use Rattle.iso_text.specs.FileLines.{sections};
 
 use crate::NoMemory;
 use crate::document::Document;
-use crate::draft::{Draft, Stage, at};
+use crate::draft::Stage;
 use crate::line_kinds::{IrrepLine, Line};
 use crate::name::Name;
 use crate::sections::IrrepText;
@@ -87,21 +88,20 @@ fn is_new(name: &Name, irreps: &[IrrepText]) -> bool
         .all(|irrep| !is_same(irrep.name.as_slice(), name.as_slice()))
 }
 
-fn on_irrep(line: IrrepLine, document: Document) -> Option<Draft>
-    ensures { result ≡ on_irrep line document }
+fn on_irrep(line: IrrepLine, document: &Document) -> Option<Stage>
+    ensures { option_map (λ s. draft s document.now) result ≡ on_irrep line document.now }
 {
     if is_new(&line.name, document.irreps()) {
-        at(Stage::Open(line), document)
+        Some(Stage::Open(line))
     } else {
         None
     }
 }
 
-// The draft with an item of a section.
-fn with_line(line: &Line, document: Document) -> Result<Option<Draft>, NoMemory>
-    ensures { IfOk result (λ next. next ≡ with_line line.now document) }
+// Adds an item of a section, and answers the stage behind it.
+fn with_line(line: &Line, document: &mut Document) -> Result<Option<Stage>, NoMemory>
+    ensures { IfOk result (λ stage. option_map (λ s. draft s document.new) stage ≡ with_line line.now document.old) }
 {
-    let mut document = document;
     match line {
         Line::Irrep(irrep) => return Ok(on_irrep(*irrep, document)),
         Line::Atom(atom) => document.push_atom(*atom)?,
@@ -112,19 +112,20 @@ fn with_line(line: &Line, document: Document) -> Result<Option<Draft>, NoMemory>
         Line::Axial(axial) => document.push_axial(*axial)?,
         _ => return Ok(None),
     }
-    Ok(at(Stage::Body, document))
+    Ok(Some(Stage::Body))
 }
 
-/// The draft with a line that begins or goes on with a section, or ends the file.
-pub fn on_section(line: &Line, document: Document) -> Result<Option<Draft>, NoMemory>
-    ensures { IfOk result (λ next. next ≡ on_section line.now document) }
+/// Adds a line that begins or goes on with a section, or ends the file, and answers the stage behind
+/// it, None where the line can't stand there.
+pub fn on_section(line: &Line, document: &mut Document) -> Result<Option<Stage>, NoMemory>
+    ensures { IfOk result (λ stage. option_map (λ s. draft s document.new) stage ≡ on_section line.now document.old) }
 {
     match line {
-        Line::End => Ok(at(Stage::Done, document)),
+        Line::End => Ok(Some(Stage::Done)),
         _ => match section_of(line) {
             None => Ok(None),
             Some(section) => {
-                if takes(&document, section) {
+                if takes(document, section) {
                     with_line(line, document)
                 } else {
                     Ok(None)
