@@ -1,6 +1,7 @@
 // The draft with one line more.
-ghost use Rattle.std.specs.Prelude.{◌≡◌, IfOk, Some, None, if◌then◌else◌, option_and_then};
+ghost use Rattle.std.specs.Prelude.{◌≡◌, IfOk, Some, None, true, if◌then◌else◌, option_and_then};
 ghost use Rattle.iso_text.specs.Draft.{settled, on_head, on_hall, on_lattice, on_op, on_k, takes_mat, on_mat, on_vector, on_section, next_of};
+ghost use Rattle.iso_text.specs.declared.draft.Draft.{Draft};
 
 use crate::NoMemory;
 use crate::document::Document;
@@ -23,7 +24,8 @@ pub const MAX_OPS: usize = 5;
 // Puts the open parent or block into the document, where a line of another section may follow, and
 // says whether one may.
 fn settle(draft: &mut Draft) -> Result<bool, NoMemory>
-    ensures { IfOk result (λ may. settled draft.old.stage draft.old.document ≡ (if may then Some draft.new.document else None)) }
+    ensures document { IfOk result (λ may. settled draft.old.stage draft.old.document ≡ (if may then Some draft.new.document else None)) }
+    ensures body { IfOk result (λ _. draft.new.stage ≡ Stage.Body) }
 {
     if let Stage::Body = draft.stage {
         return Ok(true);
@@ -196,18 +198,22 @@ fn go_on_with_section(draft: &mut Draft, line: &Line) -> Result<bool, NoMemory>
     if !settle(draft)? {
         return Ok(false);
     }
-    match on_section(line, &mut draft.document)? {
-        Some(stage) => {
-            draft.stage = stage;
-            Ok(true)
-        }
-        None => Ok(false),
-    }
+    on_section(line, draft)
 }
 
-/// Goes on with the line, and says whether it can stand there. A draft that has refused a line, or
-/// met want of memory, is of no further use.
-pub fn next(alloc: Global, draft: &mut Draft, line: Line) -> Result<bool, NoMemory>
+// Whether a line is one of the sections of single lines.
+fn is_of_section(line: &Line) -> bool
+    ensures { (d : Draft) → result ≡ true → option_and_then (on_section line.now) (settled d.stage d.document) ≡ next_of d line.now }
+{
+    matches!(
+        line,
+        Line::Atom(_) | Line::Listed(_) | Line::Value(_) | Line::Axial(_)
+    )
+}
+
+// Goes on with any line. Its many drafts stand apart from the lines that are many.
+#[inline(never)]
+fn go_on_with_any(alloc: Global, draft: &mut Draft, line: Line) -> Result<bool, NoMemory>
     ensures { IfOk result (λ took. next_of draft.old line ≡ (if took then Some draft.new else None)) }
 {
     match line {
@@ -242,5 +248,17 @@ pub fn next(alloc: Global, draft: &mut Draft, line: Line) -> Result<bool, NoMemo
             Ok(go_on(draft, on_vector(vector, stage, document)))
         }
         other => go_on_with_section(draft, &other),
+    }
+}
+
+/// Goes on with the line, and says whether it can stand there. A draft that has refused a line, or
+/// met want of memory, is of no further use.
+pub fn next(alloc: Global, draft: &mut Draft, line: Line) -> Result<bool, NoMemory>
+    ensures { IfOk result (λ took. next_of draft.old line ≡ (if took then Some draft.new else None)) }
+{
+    if is_of_section(&line) {
+        go_on_with_section(draft, &line)
+    } else {
+        go_on_with_any(alloc, draft, line)
     }
 }

@@ -1,14 +1,13 @@
 // The lines of the sections behind the parent: which of them may stand next.
-ghost use Rattle.std.specs.Prelude.{◌≡◌, ◌<◌, ◌==◌, IfOk, IfSome};
-ghost use Rattle.std.specs.Option.{option_map};
+ghost use Rattle.std.specs.Prelude.{◌≡◌, ◌<◌, ◌==◌, IfOk, IfSome, Some, None, if◌then◌else◌};
 ghost use Rattle.std.specs.List.{list_all};
-ghost use Rattle.iso_text.specs.Draft.{draft, on_irrep, has_room, section_takes, section_of, with_line, on_section};
+ghost use Rattle.iso_text.specs.Draft.{on_irrep, has_room, section_takes, section_of, with_line, on_section};
 ghost use Rattle.iso_text.specs.File.{is_new};
 ghost use Rattle.iso_text.specs.FileLines.{sections};
 
 use crate::NoMemory;
 use crate::document::Document;
-use crate::draft::Stage;
+use crate::draft::{Draft, Stage};
 use crate::line_kinds::{IrrepLine, Line};
 use crate::name::Name;
 use crate::sections::IrrepText;
@@ -88,47 +87,54 @@ fn is_new(name: &Name, irreps: &[IrrepText]) -> bool
         .all(|irrep| !is_same(irrep.name.as_slice(), name.as_slice()))
 }
 
-fn on_irrep(line: IrrepLine, document: &Document) -> Option<Stage>
-    ensures { option_map (λ s. draft s document.now) result ≡ on_irrep line document.now }
+fn on_irrep(line: IrrepLine, draft: &mut Draft) -> bool
+    ensures { on_irrep line draft.old.document ≡ (if result then Some draft.new else None) }
 {
-    if is_new(&line.name, document.irreps()) {
-        Some(Stage::Open(line))
+    if is_new(&line.name, draft.document.irreps()) {
+        draft.stage = Stage::Open(line);
+        true
     } else {
-        None
+        false
     }
 }
 
-// Adds an item of a section, and answers the stage behind it.
-fn with_line(line: &Line, document: &mut Document) -> Result<Option<Stage>, NoMemory>
-    ensures { IfOk result (λ stage. option_map (λ s. draft s document.new) stage ≡ with_line line.now document.old) }
+// Adds an item of a section, and says whether it may stand there.
+fn with_line(line: &Line, draft: &mut Draft) -> Result<bool, NoMemory>
+    requires { draft.old.stage ≡ Stage.Body }
+    ensures { IfOk result (λ took. with_line line.now draft.old.document ≡ (if took then Some draft.new else None)) }
 {
+    let document = &mut draft.document;
     match line {
-        Line::Irrep(irrep) => return Ok(on_irrep(*irrep, document)),
+        Line::Irrep(irrep) => return Ok(on_irrep(*irrep, draft)),
         Line::Atom(atom) => document.push_atom(*atom)?,
         Line::Tolerance(tolerance) => document.set_tolerance(*tolerance),
         Line::Cell(cell) => document.set_cell(*cell),
         Line::Listed(atom) => document.push_listed(*atom)?,
         Line::Value(value) => document.push_value(*value)?,
         Line::Axial(axial) => document.push_axial(*axial)?,
-        _ => return Ok(None),
+        _ => return Ok(false),
     }
-    Ok(Some(Stage::Body))
+    Ok(true)
 }
 
-/// Adds a line that begins or goes on with a section, or ends the file, and answers the stage behind
-/// it, None where the line can't stand there.
-pub fn on_section(line: &Line, document: &mut Document) -> Result<Option<Stage>, NoMemory>
-    ensures { IfOk result (λ stage. option_map (λ s. draft s document.new) stage ≡ on_section line.now document.old) }
+/// Adds a line that begins or goes on with a section, or ends the file, and says whether it can
+/// stand there.
+pub fn on_section(line: &Line, draft: &mut Draft) -> Result<bool, NoMemory>
+    requires { draft.old.stage ≡ Stage.Body }
+    ensures { IfOk result (λ took. on_section line.now draft.old.document ≡ (if took then Some draft.new else None)) }
 {
     match line {
-        Line::End => Ok(Some(Stage::Done)),
+        Line::End => {
+            draft.stage = Stage::Done;
+            Ok(true)
+        }
         _ => match section_of(line) {
-            None => Ok(None),
+            None => Ok(false),
             Some(section) => {
-                if takes(document, section) {
-                    with_line(line, document)
+                if takes(&draft.document, section) {
+                    with_line(line, draft)
                 } else {
-                    Ok(None)
+                    Ok(false)
                 }
             }
         },
