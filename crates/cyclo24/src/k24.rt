@@ -4,10 +4,7 @@ ghost use Rattle.cyclo24.specs.Written4.{numbers4, IsNarrow4};
 ghost use Rattle.cyclo24.specs.Listed.{is_exact};
 
 use crate::fraction4::Fraction4;
-use crate::lowest4::{
-    are_rational, are_short, long_product, long_sum, rational_product, rational_sum, short_product,
-    short_sum,
-};
+use crate::lowest4::{are_rational, rational_product, rational_sum};
 use crate::print::push_multiple;
 use crate::small::Small;
 use crate::whole::Whole;
@@ -159,11 +156,7 @@ impl Field for K24 {
             let rational = rational_sum(Small { n: 1 }, &self.fraction, &other.fraction);
             return Ok(K24 { fraction: rational });
         }
-        if are_short(&self.fraction, &other.fraction) {
-            let short = short_sum(Small { n: 1 }, &self.fraction, &other.fraction);
-            return Ok(K24 { fraction: short });
-        }
-        let fraction = long_sum(Small { n: 1 }, &self.fraction, &other.fraction)?;
+        let fraction = self.fraction.sum(Small { n: 1 }, &other.fraction)?;
         Ok(K24 { fraction })
     }
 
@@ -172,11 +165,7 @@ impl Field for K24 {
             let rational = rational_sum(Small { n: -1 }, &self.fraction, &other.fraction);
             return Ok(K24 { fraction: rational });
         }
-        if are_short(&self.fraction, &other.fraction) {
-            let short = short_sum(Small { n: -1 }, &self.fraction, &other.fraction);
-            return Ok(K24 { fraction: short });
-        }
-        let fraction = long_sum(Small { n: -1 }, &self.fraction, &other.fraction)?;
+        let fraction = self.fraction.sum(Small { n: -1 }, &other.fraction)?;
         Ok(K24 { fraction })
     }
 
@@ -185,11 +174,7 @@ impl Field for K24 {
             let rational = rational_product(&self.fraction, &other.fraction);
             return Ok(K24 { fraction: rational });
         }
-        if are_short(&self.fraction, &other.fraction) {
-            let short = short_product(&self.fraction, &other.fraction);
-            return Ok(K24 { fraction: short });
-        }
-        let fraction = long_product(&self.fraction, &other.fraction)?;
+        let fraction = self.fraction.product(&other.fraction)?;
         Ok(K24 { fraction })
     }
 

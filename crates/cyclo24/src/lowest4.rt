@@ -29,8 +29,8 @@ pub(crate) fn rational_product(a: &Fraction4, b: &Fraction4) -> Fraction4
     lowest_rational(n, d)
 }
 
-/// The product of short numbers.
-pub(crate) fn short_product(a: &Fraction4, b: &Fraction4) -> Fraction4
+// The product of short numbers.
+fn short_product(a: &Fraction4, b: &Fraction4) -> Fraction4
     requires short { IsWithin4 (2 ^ 28) (short_of a.now) }
     requires short_other { IsWithin4 (2 ^ 28) (short_of b.now) }
     requires positive { is_positive a.now.d.n ≡ true }
@@ -40,10 +40,10 @@ pub(crate) fn short_product(a: &Fraction4, b: &Fraction4) -> Fraction4
     a.short().product(b.short()).lowest()
 }
 
-/// The product of any numbers.
+// The product of any numbers.
 #[cold]
 #[inline(never)]
-pub(crate) fn long_product(a: &Fraction4, b: &Fraction4) -> Result<Fraction4, Wide>
+fn long_product(a: &Fraction4, b: &Fraction4) -> Result<Fraction4, Wide>
     requires positive { is_positive a.now.d.n ≡ true }
     requires positive_other { is_positive b.now.d.n ≡ true }
     ensures ok { IfOk result (λ s. IsAnswered4 (product a.now b.now).written (numerators4 (product a.now b.now).value) (unsigned_abs (product a.now b.now).value.d.n) s) }
@@ -71,8 +71,8 @@ pub(crate) fn rational_sum(factor: Small, a: &Fraction4, b: &Fraction4) -> Fract
     lowest_rational(n, d.times(q))
 }
 
-/// The sum of short numbers, with a small factor at the second.
-pub(crate) fn short_sum(factor: Small, a: &Fraction4, b: &Fraction4) -> Fraction4
+// The sum of short numbers, with a small factor at the second.
+fn short_sum(factor: Small, a: &Fraction4, b: &Fraction4) -> Fraction4
     requires factor { unsigned_abs factor.n ≤ 8 }
     requires short { IsWithin4 (2 ^ 28) (short_of a.now) }
     requires short_other { IsWithin4 (2 ^ 28) (short_of b.now) }
@@ -83,10 +83,10 @@ pub(crate) fn short_sum(factor: Small, a: &Fraction4, b: &Fraction4) -> Fraction
     a.short().sum(factor, b.short()).lowest()
 }
 
-/// The sum of any numbers, with a small factor at the second.
+// The sum of any numbers, with a small factor at the second.
 #[cold]
 #[inline(never)]
-pub(crate) fn long_sum(factor: Small, a: &Fraction4, b: &Fraction4) -> Result<Fraction4, Wide>
+fn long_sum(factor: Small, a: &Fraction4, b: &Fraction4) -> Result<Fraction4, Wide>
     requires factor { unsigned_abs factor.n ≤ 8 }
     requires narrow { IsNarrow4 a.now }
     requires narrow_other { IsNarrow4 b.now }
@@ -132,15 +132,6 @@ pub(crate) fn are_rational(a: &Fraction4, b: &Fraction4) -> bool
         && (a.a0.is_short() && (b.a0.is_short() && (a.d.is_short() && b.d.is_short())))
 }
 
-/// Whether all numbers of both are short.
-#[inline]
-pub(crate) fn are_short(a: &Fraction4, b: &Fraction4) -> bool
-    ensures left { result ≡ true → IsWithin4 (2 ^ 28) (short_of a.now) }
-    ensures right { result ≡ true → IsWithin4 (2 ^ 28) (short_of b.now) }
-{
-    a.is_short() && b.is_short()
-}
-
 impl Fraction4 {
     // Whether all its numbers are short.
     fn is_short(&self) -> bool
@@ -181,6 +172,37 @@ impl Fraction4 {
             a1: self.a1.shortened(),
             a2: self.a2.shortened(),
             a3: self.a3.shortened(),
+        }
+    }
+
+    /// The product in lowest terms.
+    pub(crate) fn product(&self, other: &Fraction4) -> Result<Fraction4, Wide>
+        requires positive { is_positive self.now.d.n ≡ true }
+        requires positive_other { is_positive other.now.d.n ≡ true }
+        ensures ok { IfOk result (λ s. IsAnswered4 (product self.now other.now).written (numerators4 (product self.now other.now).value) (unsigned_abs (product self.now other.now).value.d.n) s) }
+        ensures wide { IfErr result (λ _. any_wide (product self.now other.now).written ≡ true) }
+    {
+        if self.is_short() && other.is_short() {
+            Ok(short_product(self, other))
+        } else {
+            long_product(self, other)
+        }
+    }
+
+    /// The sum with a multiple of the other number by a small factor, in lowest terms.
+    pub(crate) fn sum(&self, factor: Small, other: &Fraction4) -> Result<Fraction4, Wide>
+        requires factor { unsigned_abs factor.n ≤ 8 }
+        requires narrow { IsNarrow4 self.now }
+        requires narrow_other { IsNarrow4 other.now }
+        requires positive { is_positive self.now.d.n ≡ true }
+        requires positive_other { is_positive other.now.d.n ≡ true }
+        ensures ok { IfOk result (λ s. IsAnswered4 (sum (record { n = factor.n }) self.now other.now).written (numerators4 (sum (record { n = factor.n }) self.now other.now).value) (unsigned_abs (sum (record { n = factor.n }) self.now other.now).value.d.n) s) }
+        ensures wide { IfErr result (λ _. any_wide (sum (record { n = factor.n }) self.now other.now).written ≡ true) }
+    {
+        if self.is_short() && other.is_short() {
+            Ok(short_sum(factor, self, other))
+        } else {
+            long_sum(factor, self, other)
         }
     }
 

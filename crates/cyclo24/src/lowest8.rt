@@ -26,8 +26,8 @@ pub(crate) fn rational_product(a: &Fraction8, b: &Fraction8) -> Fraction8
     lowest_rational(n, d)
 }
 
-/// The product of short numbers.
-pub(crate) fn short_product(a: &Fraction8, b: &Fraction8) -> Fraction8
+// The product of short numbers.
+fn short_product(a: &Fraction8, b: &Fraction8) -> Fraction8
     requires short { IsWithin8 (2 ^ 28) (short_of a.now) }
     requires short_other { IsWithin8 (2 ^ 28) (short_of b.now) }
     requires positive { is_positive a.now.d.n ≡ true }
@@ -37,10 +37,10 @@ pub(crate) fn short_product(a: &Fraction8, b: &Fraction8) -> Fraction8
     a.short().product(b.short()).lowest()
 }
 
-/// The product of any numbers.
+// The product of any numbers.
 #[cold]
 #[inline(never)]
-pub(crate) fn long_product(a: &Fraction8, b: &Fraction8) -> Result<Fraction8, Wide>
+fn long_product(a: &Fraction8, b: &Fraction8) -> Result<Fraction8, Wide>
     requires positive { is_positive a.now.d.n ≡ true }
     requires positive_other { is_positive b.now.d.n ≡ true }
     ensures ok { IfOk result (λ s. IsAnswered8 (product a.now b.now).written (numerators8 (product a.now b.now).value) (unsigned_abs (product a.now b.now).value.d.n) s) }
@@ -67,8 +67,8 @@ pub(crate) fn rational_sum(a: &Fraction8, b: &Fraction8) -> Fraction8
     lowest_rational(n, d.times(q))
 }
 
-/// The sum of short numbers.
-pub(crate) fn short_sum(a: &Fraction8, b: &Fraction8) -> Fraction8
+// The sum of short numbers.
+fn short_sum(a: &Fraction8, b: &Fraction8) -> Fraction8
     requires short { IsWithin8 (2 ^ 28) (short_of a.now) }
     requires short_other { IsWithin8 (2 ^ 28) (short_of b.now) }
     requires positive { is_positive a.now.d.n ≡ true }
@@ -78,10 +78,10 @@ pub(crate) fn short_sum(a: &Fraction8, b: &Fraction8) -> Fraction8
     a.short().sum(b.short()).lowest()
 }
 
-/// The sum of any numbers.
+// The sum of any numbers.
 #[cold]
 #[inline(never)]
-pub(crate) fn long_sum(a: &Fraction8, b: &Fraction8) -> Result<Fraction8, Wide>
+fn long_sum(a: &Fraction8, b: &Fraction8) -> Result<Fraction8, Wide>
     requires narrow { IsNarrow8 a.now }
     requires narrow_other { IsNarrow8 b.now }
     requires positive { is_positive a.now.d.n ≡ true }
@@ -101,15 +101,6 @@ pub(crate) fn are_rational(a: &Fraction8, b: &Fraction8) -> bool
 {
     a.above_rational().either(b.above_rational()).is_zero()
         && (a.c0.is_short() && (b.c0.is_short() && (a.d.is_short() && b.d.is_short())))
-}
-
-/// Whether all numbers of both are short.
-#[inline]
-pub(crate) fn are_short(a: &Fraction8, b: &Fraction8) -> bool
-    ensures left { result ≡ true → IsWithin8 (2 ^ 28) (short_of a.now) }
-    ensures right { result ≡ true → IsWithin8 (2 ^ 28) (short_of b.now) }
-{
-    a.is_short() && b.is_short()
 }
 
 impl Fraction8 {
@@ -153,6 +144,38 @@ impl Fraction8 {
             c5: self.c5.shortened(),
             c6: self.c6.shortened(),
             c7: self.c7.shortened(),
+        }
+    }
+
+    /// The product in lowest terms.
+    #[inline(never)]
+    pub(crate) fn product(&self, other: &Fraction8) -> Result<Fraction8, Wide>
+        requires positive { is_positive self.now.d.n ≡ true }
+        requires positive_other { is_positive other.now.d.n ≡ true }
+        ensures ok { IfOk result (λ s. IsAnswered8 (product self.now other.now).written (numerators8 (product self.now other.now).value) (unsigned_abs (product self.now other.now).value.d.n) s) }
+        ensures wide { IfErr result (λ _. any_wide (product self.now other.now).written ≡ true) }
+    {
+        if self.is_short() && other.is_short() {
+            Ok(short_product(self, other))
+        } else {
+            long_product(self, other)
+        }
+    }
+
+    /// The sum in lowest terms.
+    #[inline(never)]
+    pub(crate) fn sum(&self, other: &Fraction8) -> Result<Fraction8, Wide>
+        requires narrow { IsNarrow8 self.now }
+        requires narrow_other { IsNarrow8 other.now }
+        requires positive { is_positive self.now.d.n ≡ true }
+        requires positive_other { is_positive other.now.d.n ≡ true }
+        ensures ok { IfOk result (λ s. IsAnswered8 (sum self.now other.now).written (numerators8 (sum self.now other.now).value) (unsigned_abs (sum self.now other.now).value.d.n) s) }
+        ensures wide { IfErr result (λ _. any_wide (sum self.now other.now).written ≡ true) }
+    {
+        if self.is_short() && other.is_short() {
+            Ok(short_sum(self, other))
+        } else {
+            long_sum(self, other)
         }
     }
 }

@@ -4,10 +4,7 @@ ghost use Rattle.cyclo24.specs.Written8.{numbers8, IsNarrow8};
 ghost use Rattle.cyclo24.specs.Listed.{is_exact};
 
 use crate::fraction8::Fraction8;
-use crate::lowest8::{
-    are_rational, are_short, long_product, long_sum, rational_product, rational_sum, short_product,
-    short_sum,
-};
+use crate::lowest8::{are_rational, rational_product, rational_sum};
 use crate::powers::{ROOT_ORDER, power_row};
 use crate::print::push_multiple;
 use crate::terms::{sum_of_terms, with_row, zero_over};
@@ -99,11 +96,7 @@ impl Field for Z24 {
             let rational = rational_sum(&self.fraction, &other.fraction);
             return Ok(Z24 { fraction: rational });
         }
-        if are_short(&self.fraction, &other.fraction) {
-            let short = short_sum(&self.fraction, &other.fraction);
-            return Ok(Z24 { fraction: short });
-        }
-        let fraction = long_sum(&self.fraction, &other.fraction)?;
+        let fraction = self.fraction.sum(&other.fraction)?;
         Ok(Z24 { fraction })
     }
 
@@ -117,11 +110,7 @@ impl Field for Z24 {
             let rational = rational_product(&self.fraction, &other.fraction);
             return Ok(Z24 { fraction: rational });
         }
-        if are_short(&self.fraction, &other.fraction) {
-            let short = short_product(&self.fraction, &other.fraction);
-            return Ok(Z24 { fraction: short });
-        }
-        let fraction = long_product(&self.fraction, &other.fraction)?;
+        let fraction = self.fraction.product(&other.fraction)?;
         Ok(Z24 { fraction })
     }
 

@@ -10,11 +10,11 @@ use Rattle.cyclo24.proofs.k24.K24Field.add.Goals as goal
 numbers : (a b s : Fraction4) (h : IsLow a) (k : IsLow b) → IsAnswer (sum (record { n = pos 1 }) a b) s → numbers4 s ≡ (k24_laws.plus (exact_of a h) (exact_of b k)).0
 numbers a b s h k e = sum24 a b (sum (record { n = pos 1 }) a b).value s h k refl e.lowest
 
-pub long_sum-requires-clause-positive : goal.long_sum-requires-clause-positive
-long_sum-requires-clause-positive c = low_positive c.args.self.fraction c.args.self.lowest
+pub sum-requires-clause-positive : goal.sum-requires-clause-positive
+sum-requires-clause-positive c = low_positive c.args.self.fraction c.args.self.lowest
 
-pub long_sum-requires-clause-positive_other : goal.long_sum-requires-clause-positive_other
-long_sum-requires-clause-positive_other c = low_positive c.args.other.fraction c.args.other.lowest
+pub sum-requires-clause-positive_other : goal.sum-requires-clause-positive_other
+sum-requires-clause-positive_other c = low_positive c.args.other.fraction c.args.other.lowest
 
 pub returns-in_err-fraction-clause-wide : goal.returns-in_err-fraction-clause-wide
 returns-in_err-fraction-clause-wide c = let h = c.in_err-fraction.ensures.wide in search (rules, h)
@@ -46,20 +46,3 @@ returns-then-are_rational-clause-exact c = let h = made_value c.rational_sum-rat
 
 pub returns-then-are_rational-clause-wide : goal.returns-then-are_rational-clause-wide
 returns-then-are_rational-clause-wide c = let h = c.rational_sum-rational.ensures.written in search (rules, h)
-
-pub short_sum-short-requires-clause-positive : goal.short_sum-short-requires-clause-positive
-short_sum-short-requires-clause-positive c = low_positive c.args.self.fraction c.args.self.lowest
-
-pub short_sum-short-requires-clause-positive_other : goal.short_sum-short-requires-clause-positive_other
-short_sum-short-requires-clause-positive_other c = low_positive c.args.other.fraction c.args.other.lowest
-
-pub invariant_of-result-then-are_short : goal.invariant_of-result-then-are_short
-invariant_of-result-then-are_short c =
-    let e = c.short_sum-short.ensures in
-    record { narrow = e.narrow; lowest = made_low c.short_sum-short.result (k24_laws.plus (exact_of c.args.self.fraction c.args.self.lowest) (exact_of c.args.other.fraction c.args.other.lowest)) (numbers c.args.self.fraction c.args.other.fraction c.short_sum-short.result c.args.self.lowest c.args.other.lowest e) }
-
-pub returns-then-are_short-clause-exact : goal.returns-then-are_short-clause-exact
-returns-then-are_short-clause-exact c = let h = made_value c.short_sum-short.result (k24_laws.plus (exact_of c.args.self.fraction c.args.self.lowest) (exact_of c.args.other.fraction c.args.other.lowest)) (numbers c.args.self.fraction c.args.other.fraction c.short_sum-short.result c.args.self.lowest c.args.other.lowest c.short_sum-short.ensures) in search h
-
-pub returns-then-are_short-clause-wide : goal.returns-then-are_short-clause-wide
-returns-then-are_short-clause-wide c = let h = c.short_sum-short.ensures.written in search (rules, h)
