@@ -1,6 +1,6 @@
 -- That the short ways to a product, a sum and an inverse give what the formulas do, and write nothing wide.
 --
--- answered_by: what is reduced is the answer; answered_ok: an answer is no refusal
+-- answered_by: what is reduced is the answer
 -- product_positive, product_ready, sum_ready, inverse_answered, inverse_ready: what is asked before reducing
 -- times_zero: by 0
 -- rational_within: a rational number of short parts is short
@@ -29,7 +29,7 @@ use Rattle.cyclo24.specs.ListedLaws.{positive_abs}
 use Rattle.cyclo24.specs.Checked.{Checked, answer, any_wide, then, give, times, sum_of, product_of}
 use Rattle.cyclo24.specs.CheckedLaws.{answer_ok, neg_narrow, quotient_below}
 use Rattle.cyclo24.specs.Short.{IsShortProduct, none, more}
-use Rattle.cyclo24.specs.ShortLaws.{then_all, times_narrow, written_all, short_narrow, short_most, narrow_answer}
+use Rattle.cyclo24.specs.ShortLaws.{then_all, times_narrow, written_all, short_narrow, short_most}
 use Rattle.cyclo24.specs.Written4.{numbers4, numerators4, four_of, IsNarrow4, fraction, product0, product1, product2, product3, product, joined, sum_over, sum, norm_u, norm_v, norm, multiple, inverse_over, inverse, upright, minus}
 use Rattle.cyclo24.specs.Written4Laws.{quotient_positive}
 use Rattle.cyclo24.specs.Written4Values.{u_value, v_value, product_value, sum_value, inverse_value, product_narrow, sum_narrow, inverse_narrow}
@@ -45,9 +45,6 @@ pub answered_by : (m : Checked Fraction4) (r s : Fraction4) → answer m ≡ Ok 
 answered_by m r s e l n =
     let f = answer_ok m r e in
     record { written = f.0; lowest = l ∙ ap (λ (q : Fraction4). lowest_terms (numerators4 q) (unsigned_abs q.d.n)) (sym f.1); narrow = n }
-
-pub answered_ok : (m : Checked Fraction4) (xs : List ℤ) (d : ℕ) (s : Fraction4) → IsAnswered4 m.written xs d s → answer m ≡ Ok m.value
-answered_ok m xs d s a = narrow_answer m a.written
 
 positive_pos : (n : ℕ) → 0 < n → is_positive (pos n) ≡ true
 positive_pos n h = search rules

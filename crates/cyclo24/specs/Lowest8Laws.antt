@@ -1,6 +1,6 @@
 -- That the short ways to a product and a sum give what the formulas do, and write nothing wide.
 --
--- answered_by: what is reduced is the answer; answered_ok: an answer is no refusal
+-- answered_by: what is reduced is the answer
 -- product_ready, sum_ready: what is asked before reducing
 -- rational_within: a rational number of short parts is short
 -- product_answered, rational_product_answered, sum_answered, rational_sum_answered: the short ways
@@ -20,7 +20,7 @@ use Rattle.cyclo24.specs.EightNorm.{list8}
 use Rattle.cyclo24.specs.Listed.{is_positive}
 use Rattle.cyclo24.specs.Checked.{Checked, answer, any_wide, then}
 use Rattle.cyclo24.specs.CheckedLaws.{answer_ok, quotient_below}
-use Rattle.cyclo24.specs.ShortLaws.{then_all, times_narrow, narrow_answer}
+use Rattle.cyclo24.specs.ShortLaws.{then_all, times_narrow}
 use Rattle.cyclo24.specs.DotLaws.{short_dot_all, short_dot_most, less_two_all, and_one_all}
 use Rattle.cyclo24.specs.Written8.{numbers8, numerators8, eight_of, IsNarrow8, num, dot, fraction8, high_sums, low, product, joined, sum_over, sum}
 use Rattle.cyclo24.specs.Written8Values.{product_value, sum_value, product_narrow, sum_narrow}
@@ -37,9 +37,6 @@ pub answered_by : (m : Checked Fraction8) (r s : Fraction8) → answer m ≡ Ok 
 answered_by m r s e l n =
     let f = answer_ok m r e in
     record { written = f.0; lowest = l ∙ ap (λ (q : Fraction8). lowest_terms (numerators8 q) (unsigned_abs q.d.n)) (sym f.1); narrow = n }
-
-pub answered_ok : (m : Checked Fraction8) (s : Fraction8) → IsAnswer m s → answer m ≡ Ok m.value
-answered_ok m s a = narrow_answer m a.written
 
 -- the long ways
 

@@ -1,14 +1,13 @@
 -- Sums of short products, in which no written number is wide.
 --
 -- then_all, times_narrow, short_narrow: nothing wide is written
--- narrow_answer: the answer of what writes nothing wide
 -- short_most: the size of a sum of short products
-use Rattle.std.proofs.Common.{◌≡◌, ℕ, ◌+◌, ◌*◌, ◌^◌, ◌<◌, ◌≤◌, Bool, false, arith, ℤ, pos, ◌+ℤ◌, ◌*ℤ◌, refl, lit≤, List, [], ◌∷◌, length, ap, ◌∙◌, Ok, Err, cond}
+use Rattle.std.proofs.Common.{◌≡◌, ℕ, ◌+◌, ◌*◌, ◌^◌, ◌<◌, ◌≤◌, Bool, false, arith, ℤ, pos, ◌+ℤ◌, ◌*ℤ◌, refl, lit≤, List, [], ◌∷◌, length, ◌∙◌}
 use Rattle.std.specs.Prelude.{◌||◌}
 use Rattle.std.specs.Int.RustNames.{unsigned_abs}
 use Rattle.cyclo24.specs.declared.whole.Whole.{Whole}
 use Rattle.cyclo24.specs.declared.whole.Product.{Product}
-use Rattle.cyclo24.specs.Checked.{is_wide, any_wide, answer, Checked, then, written, times, plus, term, sum_from, sum_of}
+use Rattle.cyclo24.specs.Checked.{is_wide, any_wide, Checked, then, written, times, plus, term, sum_from, sum_of}
 use Rattle.cyclo24.specs.CheckedLaws.{below_wide, any_wide-append}
 use Rattle.cyclo24.specs.SmallLaws.{times_most, factor_most, sum_most}
 use Rattle.cyclo24.specs.Short.{IsShortProduct, AreShort, more}
@@ -63,8 +62,3 @@ sum_size s (q ∷ qs) (more p ps k a) =
 
 pub short_most : (ps : List Product) → AreShort ps → unsigned_abs (sum_of ps).value.n ≤ length ps * 2 ^ 59
 short_most ps a = omega (arith, sum_size (record { n = pos 0 }) ps a)
-
--- the answer of a computation that writes no wide number
-pub narrow_answer : {A : Type 0} (m : Checked A) → any_wide m.written ≡ false → answer m ≡ Ok m.value
-unfolding answer
-narrow_answer m e = ap (λ b. cond b (Err (record {})) (Ok m.value)) e

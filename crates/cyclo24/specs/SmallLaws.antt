@@ -6,10 +6,13 @@
 -- short_between, tiny_between: a bound by two comparisons
 -- shortened_fits, shortened_is: a number of 128 bits in 64
 -- gcd_one: 1 has no divisor but 1
+-- either_left, either_right: a number made of the bits of either is 0 only where both are
 -- common_is, common_most, common_fits, common_kept: the same of a greatest common divisor
 use Rattle.std.proofs.Common.{◌≡◌, ℕ, true, ◌+◌, ◌*◌, ◌^◌, ◌<◌, ◌≤◌, arith, ℤ, pos, ◌+ℤ◌, ◌*ℤ◌, lit≤, mul-le-mul, le_refl, subst, sym, ap, ◌∙◌, to_z, of_z}
 use Rattle.std.specs.Prelude.{FitsSigned, negsuc, ◌<ℤ◌}
-use Rattle.std.proofs.lemmas.Int.{ints, fits_signed_from_abs, unsigned_abs-mul, to_z-of_z, to_z_pos}
+use Rattle.std.proofs.lemmas.Int.{ints, fits_signed_from_abs, unsigned_abs-mul, to_z-of_z, to_z_pos, of_z-to_z}
+use Rattle.std.proofs.lemmas.Nat.{or_lt, le_or_l, le_or_r}
+use Rattle.std.specs.Int.Bits.{bit_or}
 use Rattle.std.specs.Int.{w64, w128}
 use Rattle.std.specs.Int.RustNames.{unsigned_abs}
 use Rattle.std.specs.Ordering.{int_eq}
@@ -88,3 +91,22 @@ gcd_one a y h =
     let e : y ≡ pos 1 = (signed_Decides y (pos 1)).0 h in
     let one : gcd a 1 ≡ 1 = eq-one_of_dvd-one (gcd_is a 1).1 in
     e ∙ ap pos (sym one) ∙ ap (λ z. pos (gcd a (unsigned_abs z))) (sym e)
+
+-- a number whose bits are those of either x or y
+abbrev either : ℤ → ℤ → ℤ
+either x y = to_z w128 (bit_or (of_z w128 x) (of_z w128 y))
+
+-- its bits are 0 where it is
+either_bits : (x y : ℤ) → FitsSigned w128 x → FitsSigned w128 y → either x y ≡ pos 0 → bit_or (of_z w128 x) (of_z w128 y) ≡ 0
+either_bits x y h k e =
+    let below : bit_or (of_z w128 x) (of_z w128 y) < 2 ^ 128 = or_lt 128 (of_z w128 x) (of_z w128 y) (omega (arith, ints, h)) (omega (arith, ints, k)) in
+    sym (of_z-to_z w128 (bit_or (of_z w128 x) (of_z w128 y)) below) ∙ ap (of_z w128) e
+
+bits_zero : (x : ℤ) → FitsSigned w128 x → of_z w128 x ≤ 0 → x ≡ pos 0
+bits_zero x h e = let z : of_z w128 x ≡ 0 = omega (arith, e) in sym (to_z-of_z w128 x h) ∙ ap (to_z w128) z ∙ to_z_pos w128 0 (lit≤ tt)
+
+pub either_left : (x y : ℤ) → FitsSigned w128 x → FitsSigned w128 y → either x y ≡ pos 0 → x ≡ pos 0
+either_left x y h k e = bits_zero x h (subst (λ (n : ℕ). of_z w128 x ≤ n) (either_bits x y h k e) (le_or_l (of_z w128 x) (of_z w128 y)))
+
+pub either_right : (x y : ℤ) → FitsSigned w128 x → FitsSigned w128 y → either x y ≡ pos 0 → y ≡ pos 0
+either_right x y h k e = bits_zero y k (subst (λ (n : ℕ). of_z w128 y ≤ n) (either_bits x y h k e) (le_or_r (of_z w128 x) (of_z w128 y)))

@@ -1,6 +1,6 @@
 // The laws of the 24th cyclotomic field that the layers above rest on, as clauses of functions that
 // do nothing.
-ghost use Rattle.std.specs.Prelude.{◌≡◌, ◌+◌, ◌-◌, ◌%◌, ℕ};
+ghost use Rattle.std.specs.Prelude.{◌≡◌, ◌+◌, ◌-◌, ◌%◌, ℕ, false};
 ghost use Rattle.cyclo24.specs.ExactK24.{Exact24, k24_laws};
 ghost use Rattle.cyclo24.specs.ExactZ24.{ExactZ24, z24_laws, conj, real_part, imag_part, from_real, power, imaginary};
 ghost use Rattle.cyclo24.specs.Numerals.{of_whole};
@@ -66,9 +66,11 @@ pub fn law_of_cyclotomic_coefficients()
     ensures { (x : ExactZ24) → z24_laws.times (of_whole z24_laws (denominator 8 x.0)) x ≡ in_powers x }
 {}
 
-/// The sum, the product and the negative are the written formulas, in lowest terms.
+/// The sum, the product and the negative are the written formulas, in lowest terms. The inverse is
+/// the conjugate times the inverse of the squared absolute value.
 pub fn law_of_cyclotomic_formulas()
     ensures sum { (x y : ExactZ24) → (z24_laws.plus x y).0 ≡ reduced8 (sum (fraction8_of x.0) (fraction8_of y.0)).value }
     ensures product { (x y : ExactZ24) → (z24_laws.times x y).0 ≡ reduced8 (product (fraction8_of x.0) (fraction8_of y.0)).value }
     ensures negative { (x : ExactZ24) → (z24_laws.neg x).0 ≡ numbers8 (negated (fraction8_of x.0)) }
+    ensures inverse { (x : ExactZ24) → z24_laws.is_nought x ≡ false → z24_laws.inverse x ≡ z24_laws.times (conj x) (from_real (k24_laws.inverse (real_part (z24_laws.times x (conj x))))) }
 {}

@@ -4,6 +4,7 @@ ghost use Rattle.cyclo24.specs.Written4.{numbers4, IsNarrow4};
 ghost use Rattle.cyclo24.specs.Listed.{is_exact};
 
 use crate::fraction4::Fraction4;
+use crate::lowest4::{are_rational, rational_product, rational_sum};
 use crate::print::push_multiple;
 use crate::small::Small;
 use crate::whole::Whole;
@@ -151,16 +152,28 @@ impl Field for K24 {
     }
 
     fn add(self, other: K24) -> Result<K24, Wide> {
+        if are_rational(&self.fraction, &other.fraction) {
+            let rational = rational_sum(Small { n: 1 }, &self.fraction, &other.fraction);
+            return Ok(K24 { fraction: rational });
+        }
         let fraction = self.fraction.sum(Small { n: 1 }, &other.fraction)?;
         Ok(K24 { fraction })
     }
 
     fn sub(self, other: K24) -> Result<K24, Wide> {
+        if are_rational(&self.fraction, &other.fraction) {
+            let rational = rational_sum(Small { n: -1 }, &self.fraction, &other.fraction);
+            return Ok(K24 { fraction: rational });
+        }
         let fraction = self.fraction.sum(Small { n: -1 }, &other.fraction)?;
         Ok(K24 { fraction })
     }
 
     fn mul(self, other: K24) -> Result<K24, Wide> {
+        if are_rational(&self.fraction, &other.fraction) {
+            let rational = rational_product(&self.fraction, &other.fraction);
+            return Ok(K24 { fraction: rational });
+        }
         let fraction = self.fraction.product(&other.fraction)?;
         Ok(K24 { fraction })
     }

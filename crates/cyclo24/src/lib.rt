@@ -6,6 +6,8 @@
 
 mod cyclotomic_laws;
 mod field;
+mod formulas4;
+mod formulas8;
 mod fraction4;
 mod fraction8;
 mod k24;

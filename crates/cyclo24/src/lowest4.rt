@@ -1,6 +1,6 @@
 // Products, sums and inverses of four numerators over a denominator, in lowest terms. Each goes the
 // shortest way that its numbers allow: rational numbers, numbers in 64 bits, or any numbers.
-ghost use Rattle.std.specs.Prelude.{◌≡◌, ◌≤◌, ◌<◌, ◌^◌, true, IfOk, IfErr};
+ghost use Rattle.std.specs.Prelude.{◌≡◌, ◌≤◌, ◌<◌, ◌^◌, pos, true, IfOk, IfErr};
 ghost use Rattle.std.specs.Int.RustNames.{unsigned_abs};
 ghost use Rattle.cyclo24.specs.Four.{norm4};
 ghost use Rattle.algebra.specs.Whole.{whole};
@@ -14,9 +14,10 @@ use crate::Wide;
 use crate::fraction4::Fraction4;
 use crate::short4::{Short4, joined, lowest_rational};
 use crate::small::Small;
+use crate::whole::Whole;
 
-// The product of rational numbers.
-fn rational_product(a: &Fraction4, b: &Fraction4) -> Fraction4
+/// The product of rational numbers.
+pub(crate) fn rational_product(a: &Fraction4, b: &Fraction4) -> Fraction4
     requires rational { IsRational4 a.now }
     requires rational_other { IsRational4 b.now }
     requires positive { is_positive a.now.d.n ≡ true }
@@ -52,8 +53,8 @@ fn long_product(a: &Fraction4, b: &Fraction4) -> Result<Fraction4, Wide>
     Ok(product.reduced())
 }
 
-// The sum of rational numbers, with a small factor at the second.
-fn rational_sum(factor: Small, a: &Fraction4, b: &Fraction4) -> Fraction4
+/// The sum of rational numbers, with a small factor at the second.
+pub(crate) fn rational_sum(factor: Small, a: &Fraction4, b: &Fraction4) -> Fraction4
     requires factor { unsigned_abs factor.n ≤ 8 }
     requires rational { IsRational4 a.now }
     requires rational_other { IsRational4 b.now }
@@ -121,6 +122,16 @@ fn long_inverse(a: &Fraction4) -> Result<Fraction4, Wide>
     Ok(inverse.upright().reduced())
 }
 
+/// Whether both are rational numbers of short parts.
+#[inline]
+pub(crate) fn are_rational(a: &Fraction4, b: &Fraction4) -> bool
+    ensures left { result ≡ true → IsRational4 a.now }
+    ensures right { result ≡ true → IsRational4 b.now }
+{
+    a.above_rational().either(b.above_rational()).is_zero()
+        && (a.a0.is_short() && (b.a0.is_short() && (a.d.is_short() && b.d.is_short())))
+}
+
 impl Fraction4 {
     // Whether all its numbers are short.
     fn is_short(&self) -> bool
@@ -140,13 +151,14 @@ impl Fraction4 {
                 && (self.a1.is_tiny() && (self.a2.is_tiny() && self.a3.is_tiny())))
     }
 
-    // Whether it is a rational number of short parts.
-    fn is_rational(&self) -> bool
-        ensures { result ≡ true → IsRational4 self.now }
+    // A number that is 0 only where the coefficients of r2, r3 and r6 are.
+    #[inline]
+    fn above_rational(&self) -> Whole
+        ensures a1 { result.n ≡ pos 0 → self.now.a1.n ≡ pos 0 }
+        ensures a2 { result.n ≡ pos 0 → self.now.a2.n ≡ pos 0 }
+        ensures a3 { result.n ≡ pos 0 → self.now.a3.n ≡ pos 0 }
     {
-        self.a1.is_zero()
-            && (self.a2.is_zero()
-                && (self.a3.is_zero() && (self.a0.is_short() && self.d.is_short())))
+        self.a1.either(self.a2).either(self.a3)
     }
 
     // The number in 64 bits.
@@ -170,9 +182,7 @@ impl Fraction4 {
         ensures ok { IfOk result (λ s. IsAnswered4 (product self.now other.now).written (numerators4 (product self.now other.now).value) (unsigned_abs (product self.now other.now).value.d.n) s) }
         ensures wide { IfErr result (λ _. any_wide (product self.now other.now).written ≡ true) }
     {
-        if self.is_rational() && other.is_rational() {
-            Ok(rational_product(self, other))
-        } else if self.is_short() && other.is_short() {
+        if self.is_short() && other.is_short() {
             Ok(short_product(self, other))
         } else {
             long_product(self, other)
@@ -189,9 +199,7 @@ impl Fraction4 {
         ensures ok { IfOk result (λ s. IsAnswered4 (sum (record { n = factor.n }) self.now other.now).written (numerators4 (sum (record { n = factor.n }) self.now other.now).value) (unsigned_abs (sum (record { n = factor.n }) self.now other.now).value.d.n) s) }
         ensures wide { IfErr result (λ _. any_wide (sum (record { n = factor.n }) self.now other.now).written ≡ true) }
     {
-        if self.is_rational() && other.is_rational() {
-            Ok(rational_sum(factor, self, other))
-        } else if self.is_short() && other.is_short() {
+        if self.is_short() && other.is_short() {
             Ok(short_sum(factor, self, other))
         } else {
             long_sum(factor, self, other)

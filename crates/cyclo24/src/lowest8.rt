@@ -1,6 +1,6 @@
 // Products and sums of eight numerators over a denominator, in lowest terms. Each goes the shortest
 // way that its numbers allow: rational numbers, numbers in 64 bits, or any numbers.
-ghost use Rattle.std.specs.Prelude.{◌≡◌, ◌≤◌, ◌^◌, true, IfOk, IfErr};
+ghost use Rattle.std.specs.Prelude.{◌≡◌, ◌≤◌, ◌^◌, pos, true, IfOk, IfErr};
 ghost use Rattle.std.specs.Int.RustNames.{unsigned_abs};
 ghost use Rattle.cyclo24.specs.Checked.{any_wide};
 ghost use Rattle.cyclo24.specs.Listed.{is_positive};
@@ -11,9 +11,10 @@ ghost use Rattle.cyclo24.specs.Lowest8.{IsAnswered8};
 use crate::Wide;
 use crate::fraction8::Fraction8;
 use crate::short8::{Short8, joined, lowest_rational};
+use crate::whole::Whole;
 
-// The product of rational numbers.
-fn rational_product(a: &Fraction8, b: &Fraction8) -> Fraction8
+/// The product of rational numbers.
+pub(crate) fn rational_product(a: &Fraction8, b: &Fraction8) -> Fraction8
     requires rational { IsRational8 a.now }
     requires rational_other { IsRational8 b.now }
     requires positive { is_positive a.now.d.n ≡ true }
@@ -49,8 +50,8 @@ fn long_product(a: &Fraction8, b: &Fraction8) -> Result<Fraction8, Wide>
     Ok(product.reduced())
 }
 
-// The sum of rational numbers.
-fn rational_sum(a: &Fraction8, b: &Fraction8) -> Fraction8
+/// The sum of rational numbers.
+pub(crate) fn rational_sum(a: &Fraction8, b: &Fraction8) -> Fraction8
     requires rational { IsRational8 a.now }
     requires rational_other { IsRational8 b.now }
     requires positive { is_positive a.now.d.n ≡ true }
@@ -92,6 +93,16 @@ fn long_sum(a: &Fraction8, b: &Fraction8) -> Result<Fraction8, Wide>
     Ok(sum.reduced())
 }
 
+/// Whether both are rational numbers of short parts.
+#[inline]
+pub(crate) fn are_rational(a: &Fraction8, b: &Fraction8) -> bool
+    ensures left { result ≡ true → IsRational8 a.now }
+    ensures right { result ≡ true → IsRational8 b.now }
+{
+    a.above_rational().either(b.above_rational()).is_zero()
+        && (a.c0.is_short() && (b.c0.is_short() && (a.d.is_short() && b.d.is_short())))
+}
+
 impl Fraction8 {
     // Whether all its numbers are short.
     #[rattlefmt::skip]
@@ -103,14 +114,19 @@ impl Fraction8 {
             && (self.c6.is_short() && self.c7.is_short())))))))
     }
 
-    // Whether it is a rational number of short parts.
+    // A number that is 0 only where the coefficients of z, .., z^7 are.
     #[rattlefmt::skip]
-    fn is_rational(&self) -> bool
-        ensures { result ≡ true → IsRational8 self.now }
+    #[inline]
+    fn above_rational(&self) -> Whole
+        ensures c1 { result.n ≡ pos 0 → self.now.c1.n ≡ pos 0 }
+        ensures c2 { result.n ≡ pos 0 → self.now.c2.n ≡ pos 0 }
+        ensures c3 { result.n ≡ pos 0 → self.now.c3.n ≡ pos 0 }
+        ensures c4 { result.n ≡ pos 0 → self.now.c4.n ≡ pos 0 }
+        ensures c5 { result.n ≡ pos 0 → self.now.c5.n ≡ pos 0 }
+        ensures c6 { result.n ≡ pos 0 → self.now.c6.n ≡ pos 0 }
+        ensures c7 { result.n ≡ pos 0 → self.now.c7.n ≡ pos 0 }
     {
-        self.c1.is_zero() && (self.c2.is_zero() && (self.c3.is_zero() && (self.c4.is_zero()
-            && (self.c5.is_zero() && (self.c6.is_zero() && (self.c7.is_zero()
-            && (self.c0.is_short() && self.d.is_short())))))))
+        self.c1.either(self.c2).either(self.c3).either(self.c4).either(self.c5).either(self.c6).either(self.c7)
     }
 
     // The number in 64 bits.
@@ -132,15 +148,14 @@ impl Fraction8 {
     }
 
     /// The product in lowest terms.
+    #[inline(never)]
     pub(crate) fn product(&self, other: &Fraction8) -> Result<Fraction8, Wide>
         requires positive { is_positive self.now.d.n ≡ true }
         requires positive_other { is_positive other.now.d.n ≡ true }
         ensures ok { IfOk result (λ s. IsAnswered8 (product self.now other.now).written (numerators8 (product self.now other.now).value) (unsigned_abs (product self.now other.now).value.d.n) s) }
         ensures wide { IfErr result (λ _. any_wide (product self.now other.now).written ≡ true) }
     {
-        if self.is_rational() && other.is_rational() {
-            Ok(rational_product(self, other))
-        } else if self.is_short() && other.is_short() {
+        if self.is_short() && other.is_short() {
             Ok(short_product(self, other))
         } else {
             long_product(self, other)
@@ -148,6 +163,7 @@ impl Fraction8 {
     }
 
     /// The sum in lowest terms.
+    #[inline(never)]
     pub(crate) fn sum(&self, other: &Fraction8) -> Result<Fraction8, Wide>
         requires narrow { IsNarrow8 self.now }
         requires narrow_other { IsNarrow8 other.now }
@@ -156,9 +172,7 @@ impl Fraction8 {
         ensures ok { IfOk result (λ s. IsAnswered8 (sum self.now other.now).written (numerators8 (sum self.now other.now).value) (unsigned_abs (sum self.now other.now).value.d.n) s) }
         ensures wide { IfErr result (λ _. any_wide (sum self.now other.now).written ≡ true) }
     {
-        if self.is_rational() && other.is_rational() {
-            Ok(rational_sum(self, other))
-        } else if self.is_short() && other.is_short() {
+        if self.is_short() && other.is_short() {
             Ok(short_sum(self, other))
         } else {
             long_sum(self, other)

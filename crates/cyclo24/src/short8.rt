@@ -1,13 +1,17 @@
 // Eight numerators over a denominator in 64 bits, and the formulas of the field on them.
-ghost use Rattle.std.specs.Prelude.{◌≡◌, ◌≤◌, ◌<◌, ◌^◌, ◌+◌, ◌+ℤ◌, ◌*ℤ◌, neg_ℤ, pos, true, ◌∷◌, []};
+ghost use Rattle.std.specs.Prelude.{◌≡◌, ◌≤◌, ◌<◌, ◌^◌, ◌+ℤ◌, ◌*ℤ◌, pos, true, ◌∷◌, []};
 ghost use Rattle.std.specs.Int.RustNames.{unsigned_abs};
-ghost use Rattle.cyclo24.specs.Eight.{mul8, s0, s1, s2, s3, s4, s5, s6, s7, s8, s9, s10, s11, s12, s13, s14};
+ghost use Rattle.cyclo24.specs.Eight.{mul8};
 ghost use Rattle.cyclo24.specs.Gcd.{gcd, common, quotient, lowest_terms};
 ghost use Rattle.cyclo24.specs.Listed.{is_positive};
 ghost use Rattle.algebra.specs.Whole.{whole};
 ghost use Rattle.cyclo24.specs.Written8.{numbers8, IsNarrow8};
 ghost use Rattle.cyclo24.specs.Short8.{eight_of, numerators, rational, IsWithin8};
 
+use crate::formulas8::{
+    less, sum0, sum1, sum2, sum3, sum4, sum5, sum6, sum7, sum8, sum9, sum10, sum11, sum12, sum13,
+    sum14,
+};
 use crate::fraction8::Fraction8;
 use crate::small::Small;
 use crate::whole::Whole;
@@ -24,213 +28,6 @@ pub(crate) struct Short8 {
     pub(crate) c5: Small,
     pub(crate) c6: Small,
     pub(crate) c7: Small,
-}
-
-// The sum of the products a_i b_j with i + j = 0.
-fn sum0(a: Short8, b: Short8) -> Small
-    requires left { IsWithin8 (2 ^ 28) a }
-    requires right { IsWithin8 (2 ^ 28) b }
-    ensures value { result ≡ record { n = s0 whole (eight_of a) (eight_of b) } }
-    ensures most { unsigned_abs result.n ≤ 2 ^ 59 }
-{
-    a.c0.times(b.c0)
-}
-
-// The sum of the products a_i b_j with i + j = 1.
-fn sum1(a: Short8, b: Short8) -> Small
-    requires left { IsWithin8 (2 ^ 28) a }
-    requires right { IsWithin8 (2 ^ 28) b }
-    ensures value { result ≡ record { n = s1 whole (eight_of a) (eight_of b) } }
-    ensures most { unsigned_abs result.n ≤ 2 ^ 59 }
-{
-    a.c0.times(b.c1).plus_product(a.c1, b.c0)
-}
-
-// The sum of the products a_i b_j with i + j = 2.
-fn sum2(a: Short8, b: Short8) -> Small
-    requires left { IsWithin8 (2 ^ 28) a }
-    requires right { IsWithin8 (2 ^ 28) b }
-    ensures value { result ≡ record { n = s2 whole (eight_of a) (eight_of b) } }
-    ensures most { unsigned_abs result.n ≤ 2 ^ 59 }
-{
-    a.c0.times(b.c2)
-        .plus_product(a.c1, b.c1)
-        .plus_product(a.c2, b.c0)
-}
-
-// The sum of the products a_i b_j with i + j = 3.
-fn sum3(a: Short8, b: Short8) -> Small
-    requires left { IsWithin8 (2 ^ 28) a }
-    requires right { IsWithin8 (2 ^ 28) b }
-    ensures value { result ≡ record { n = s3 whole (eight_of a) (eight_of b) } }
-    ensures most { unsigned_abs result.n ≤ 2 ^ 59 }
-{
-    a.c0.times(b.c3)
-        .plus_product(a.c1, b.c2)
-        .plus_product(a.c2, b.c1)
-        .plus_product(a.c3, b.c0)
-}
-
-// The sum of the products a_i b_j with i + j = 4.
-fn sum4(a: Short8, b: Short8) -> Small
-    requires left { IsWithin8 (2 ^ 28) a }
-    requires right { IsWithin8 (2 ^ 28) b }
-    ensures value { result ≡ record { n = s4 whole (eight_of a) (eight_of b) } }
-    ensures most { unsigned_abs result.n ≤ 2 ^ 59 }
-{
-    a.c0.times(b.c4)
-        .plus_product(a.c1, b.c3)
-        .plus_product(a.c2, b.c2)
-        .plus_product(a.c3, b.c1)
-        .plus_product(a.c4, b.c0)
-}
-
-// The sum of the products a_i b_j with i + j = 5.
-fn sum5(a: Short8, b: Short8) -> Small
-    requires left { IsWithin8 (2 ^ 28) a }
-    requires right { IsWithin8 (2 ^ 28) b }
-    ensures value { result ≡ record { n = s5 whole (eight_of a) (eight_of b) } }
-    ensures most { unsigned_abs result.n ≤ 2 ^ 59 }
-{
-    a.c0.times(b.c5)
-        .plus_product(a.c1, b.c4)
-        .plus_product(a.c2, b.c3)
-        .plus_product(a.c3, b.c2)
-        .plus_product(a.c4, b.c1)
-        .plus_product(a.c5, b.c0)
-}
-
-// The sum of the products a_i b_j with i + j = 6.
-fn sum6(a: Short8, b: Short8) -> Small
-    requires left { IsWithin8 (2 ^ 28) a }
-    requires right { IsWithin8 (2 ^ 28) b }
-    ensures value { result ≡ record { n = s6 whole (eight_of a) (eight_of b) } }
-    ensures most { unsigned_abs result.n ≤ 2 ^ 59 }
-{
-    a.c0.times(b.c6)
-        .plus_product(a.c1, b.c5)
-        .plus_product(a.c2, b.c4)
-        .plus_product(a.c3, b.c3)
-        .plus_product(a.c4, b.c2)
-        .plus_product(a.c5, b.c1)
-        .plus_product(a.c6, b.c0)
-}
-
-// The sum of the products a_i b_j with i + j = 7.
-fn sum7(a: Short8, b: Short8) -> Small
-    requires left { IsWithin8 (2 ^ 28) a }
-    requires right { IsWithin8 (2 ^ 28) b }
-    ensures value { result ≡ record { n = s7 whole (eight_of a) (eight_of b) } }
-    ensures most { unsigned_abs result.n ≤ 2 ^ 59 }
-{
-    a.c0.times(b.c7)
-        .plus_product(a.c1, b.c6)
-        .plus_product(a.c2, b.c5)
-        .plus_product(a.c3, b.c4)
-        .plus_product(a.c4, b.c3)
-        .plus_product(a.c5, b.c2)
-        .plus_product(a.c6, b.c1)
-        .plus_product(a.c7, b.c0)
-}
-
-// The sum of the products a_i b_j with i + j = 8.
-fn sum8(a: Short8, b: Short8) -> Small
-    requires left { IsWithin8 (2 ^ 28) a }
-    requires right { IsWithin8 (2 ^ 28) b }
-    ensures value { result ≡ record { n = s8 whole (eight_of a) (eight_of b) } }
-    ensures most { unsigned_abs result.n ≤ 2 ^ 59 }
-{
-    a.c1.times(b.c7)
-        .plus_product(a.c2, b.c6)
-        .plus_product(a.c3, b.c5)
-        .plus_product(a.c4, b.c4)
-        .plus_product(a.c5, b.c3)
-        .plus_product(a.c6, b.c2)
-        .plus_product(a.c7, b.c1)
-}
-
-// The sum of the products a_i b_j with i + j = 9.
-fn sum9(a: Short8, b: Short8) -> Small
-    requires left { IsWithin8 (2 ^ 28) a }
-    requires right { IsWithin8 (2 ^ 28) b }
-    ensures value { result ≡ record { n = s9 whole (eight_of a) (eight_of b) } }
-    ensures most { unsigned_abs result.n ≤ 2 ^ 59 }
-{
-    a.c2.times(b.c7)
-        .plus_product(a.c3, b.c6)
-        .plus_product(a.c4, b.c5)
-        .plus_product(a.c5, b.c4)
-        .plus_product(a.c6, b.c3)
-        .plus_product(a.c7, b.c2)
-}
-
-// The sum of the products a_i b_j with i + j = 10.
-fn sum10(a: Short8, b: Short8) -> Small
-    requires left { IsWithin8 (2 ^ 28) a }
-    requires right { IsWithin8 (2 ^ 28) b }
-    ensures value { result ≡ record { n = s10 whole (eight_of a) (eight_of b) } }
-    ensures most { unsigned_abs result.n ≤ 2 ^ 59 }
-{
-    a.c3.times(b.c7)
-        .plus_product(a.c4, b.c6)
-        .plus_product(a.c5, b.c5)
-        .plus_product(a.c6, b.c4)
-        .plus_product(a.c7, b.c3)
-}
-
-// The sum of the products a_i b_j with i + j = 11.
-fn sum11(a: Short8, b: Short8) -> Small
-    requires left { IsWithin8 (2 ^ 28) a }
-    requires right { IsWithin8 (2 ^ 28) b }
-    ensures value { result ≡ record { n = s11 whole (eight_of a) (eight_of b) } }
-    ensures most { unsigned_abs result.n ≤ 2 ^ 59 }
-{
-    a.c4.times(b.c7)
-        .plus_product(a.c5, b.c6)
-        .plus_product(a.c6, b.c5)
-        .plus_product(a.c7, b.c4)
-}
-
-// The sum of the products a_i b_j with i + j = 12.
-fn sum12(a: Short8, b: Short8) -> Small
-    requires left { IsWithin8 (2 ^ 28) a }
-    requires right { IsWithin8 (2 ^ 28) b }
-    ensures value { result ≡ record { n = s12 whole (eight_of a) (eight_of b) } }
-    ensures most { unsigned_abs result.n ≤ 2 ^ 59 }
-{
-    a.c5.times(b.c7)
-        .plus_product(a.c6, b.c6)
-        .plus_product(a.c7, b.c5)
-}
-
-// The sum of the products a_i b_j with i + j = 13.
-fn sum13(a: Short8, b: Short8) -> Small
-    requires left { IsWithin8 (2 ^ 28) a }
-    requires right { IsWithin8 (2 ^ 28) b }
-    ensures value { result ≡ record { n = s13 whole (eight_of a) (eight_of b) } }
-    ensures most { unsigned_abs result.n ≤ 2 ^ 59 }
-{
-    a.c6.times(b.c7).plus_product(a.c7, b.c6)
-}
-
-// The sum of the products a_i b_j with i + j = 14.
-fn sum14(a: Short8, b: Short8) -> Small
-    requires left { IsWithin8 (2 ^ 28) a }
-    requires right { IsWithin8 (2 ^ 28) b }
-    ensures value { result ≡ record { n = s14 whole (eight_of a) (eight_of b) } }
-    ensures most { unsigned_abs result.n ≤ 2 ^ 59 }
-{
-    a.c7.times(b.c7)
-}
-
-// x - y.
-fn less(x: Small, y: Small) -> Small
-    requires left { unsigned_abs x.n ≤ 2 ^ 61 }
-    requires right { unsigned_abs y.n ≤ 2 ^ 59 }
-    ensures value { result ≡ record { n = x.n +ℤ neg_ℤ y.n } }
-    ensures most { unsigned_abs result.n ≤ unsigned_abs x.n + unsigned_abs y.n }
-{
-    x.plus(y.negated())
 }
 
 /// q x + p y.
@@ -385,7 +182,23 @@ impl Short8 {
         }
     }
 
+    // The number in lowest terms, over a denominator that may be other than 1.
+    #[inline(never)]
+    fn reduced(self) -> Fraction8
+        requires most { IsWithin8 (2 ^ 62) self }
+        requires positive { is_positive self.d.n ≡ true }
+        ensures lowest { numbers8 result ≡ lowest_terms (numerators self) (unsigned_abs self.d.n) }
+        ensures narrow { IsNarrow8 result }
+    {
+        let all = self.content();
+        if all.is_one() {
+            return self.widened();
+        }
+        self.divided(all).widened()
+    }
+
     /// The number in lowest terms.
+    #[inline]
     pub(crate) fn lowest(self) -> Fraction8
         requires most { IsWithin8 (2 ^ 62) self }
         requires positive { is_positive self.d.n ≡ true }
@@ -395,10 +208,6 @@ impl Short8 {
         if self.d.is_one() {
             return self.widened();
         }
-        let all = self.content();
-        if all.is_one() {
-            return self.widened();
-        }
-        self.divided(all).widened()
+        self.reduced()
     }
 }

@@ -147,6 +147,18 @@ impl Whole {
         self.n == 1
     }
 
+    /// A number that is 0 only where both are.
+    #[inline]
+    #[tactic(auto, using(crate::specs::SmallLaws::either_left, crate::specs::SmallLaws::either_right))]
+    pub(crate) fn either(self, other: Whole) -> Whole
+        ensures left { result.n ≡ pos 0 → self.n ≡ pos 0 }
+        ensures right { result.n ≡ pos 0 → other.n ≡ pos 0 }
+    {
+        Whole {
+            n: self.n | other.n,
+        }
+    }
+
     /// Whether its absolute value is below 2^28.
     #[tactic(auto, using(crate::specs::SmallLaws::short_between))]
     pub(crate) fn is_short(self) -> bool

@@ -4,6 +4,7 @@ ghost use Rattle.cyclo24.specs.Written8.{numbers8, IsNarrow8};
 ghost use Rattle.cyclo24.specs.Listed.{is_exact};
 
 use crate::fraction8::Fraction8;
+use crate::lowest8::{are_rational, rational_product, rational_sum};
 use crate::powers::{ROOT_ORDER, power_row};
 use crate::print::push_multiple;
 use crate::terms::{sum_of_terms, with_row, zero_over};
@@ -91,6 +92,10 @@ impl Field for Z24 {
     }
 
     fn add(self, other: Z24) -> Result<Z24, Wide> {
+        if are_rational(&self.fraction, &other.fraction) {
+            let rational = rational_sum(&self.fraction, &other.fraction);
+            return Ok(Z24 { fraction: rational });
+        }
         let fraction = self.fraction.sum(&other.fraction)?;
         Ok(Z24 { fraction })
     }
@@ -101,6 +106,10 @@ impl Field for Z24 {
     }
 
     fn mul(self, other: Z24) -> Result<Z24, Wide> {
+        if are_rational(&self.fraction, &other.fraction) {
+            let rational = rational_product(&self.fraction, &other.fraction);
+            return Ok(Z24 { fraction: rational });
+        }
         let fraction = self.fraction.product(&other.fraction)?;
         Ok(Z24 { fraction })
     }

@@ -19,8 +19,8 @@ product-requires-clause-positive_other c = low_positive c.args.other.fraction c.
 pub returns-in_err-fraction-clause-wide : goal.returns-in_err-fraction-clause-wide
 returns-in_err-fraction-clause-wide c = let h = c.in_err-fraction.ensures.wide in search (rules, h)
 
-pub invariant_of-result : goal.invariant_of-result
-invariant_of-result c =
+pub invariant_of-result-2 : goal.invariant_of-result-2
+invariant_of-result-2 c =
     let e = c.in_ok-fraction.ensures.ok in
     record { narrow = e.narrow; lowest = made_low c.in_ok-fraction.fraction (k24_laws.times (exact_of c.args.self.fraction c.args.self.lowest) (exact_of c.args.other.fraction c.args.other.lowest)) (numbers c.args.self.fraction c.args.other.fraction c.in_ok-fraction.fraction c.args.self.lowest c.args.other.lowest e) }
 
@@ -29,3 +29,20 @@ returns-clause-exact c = let h = made_value c.in_ok-fraction.fraction (k24_laws.
 
 pub returns-clause-wide : goal.returns-clause-wide
 returns-clause-wide c = let h = c.in_ok-fraction.ensures.ok.written in search (rules, h)
+
+pub rational_product-rational-requires-clause-positive : goal.rational_product-rational-requires-clause-positive
+rational_product-rational-requires-clause-positive c = low_positive c.args.self.fraction c.args.self.lowest
+
+pub rational_product-rational-requires-clause-positive_other : goal.rational_product-rational-requires-clause-positive_other
+rational_product-rational-requires-clause-positive_other c = low_positive c.args.other.fraction c.args.other.lowest
+
+pub invariant_of-result : goal.invariant_of-result
+invariant_of-result c =
+    let e = c.rational_product-rational.ensures in
+    record { narrow = e.narrow; lowest = made_low c.rational_product-rational.result (k24_laws.times (exact_of c.args.self.fraction c.args.self.lowest) (exact_of c.args.other.fraction c.args.other.lowest)) (numbers c.args.self.fraction c.args.other.fraction c.rational_product-rational.result c.args.self.lowest c.args.other.lowest e) }
+
+pub returns-then-are_rational-clause-exact : goal.returns-then-are_rational-clause-exact
+returns-then-are_rational-clause-exact c = let h = made_value c.rational_product-rational.result (k24_laws.times (exact_of c.args.self.fraction c.args.self.lowest) (exact_of c.args.other.fraction c.args.other.lowest)) (numbers c.args.self.fraction c.args.other.fraction c.rational_product-rational.result c.args.self.lowest c.args.other.lowest c.rational_product-rational.ensures) in search h
+
+pub returns-then-are_rational-clause-wide : goal.returns-then-are_rational-clause-wide
+returns-then-are_rational-clause-wide c = let h = c.rational_product-rational.ensures.written in search (rules, h)

@@ -1,12 +1,8 @@
 use Rattle.std.proofs.Common.{◌∙◌, sym}
 use Rattle.cyclo24.specs.Short8.{numerators}
-use Rattle.cyclo24.specs.Short4Laws.{lowest_over_one, lowest_by_whole}
+use Rattle.cyclo24.specs.Short4Laws.{lowest_over_one}
 use Rattle.cyclo24.specs.Written8.{numbers8}
 use Rattle.cyclo24.proofs.short8.Short8.lowest.Goals as goal
 
 pub returns-then-is_one-clause-lowest : goal.returns-then-is_one-clause-lowest
 returns-then-is_one-clause-lowest c = lowest_over_one (numerators c.args.self) (numbers8 c.widened.result) c.args.self.d.n (sym c.is_one.ensures ∙ c.if-is_one.true) c.widened.ensures.value
-
-pub returns-then-is_one-2-clause-lowest : goal.returns-then-is_one-2-clause-lowest
-returns-then-is_one-2-clause-lowest c =
-    lowest_by_whole (numerators c.args.self) (numbers8 c.widened-then-is_one-2.result) c.args.self.d.n c.content-all.result c.requires.positive c.content-all.ensures.value (sym c.is_one-2.ensures ∙ c.if-is_one-2.true) c.widened-then-is_one-2.ensures.value
