@@ -9,7 +9,6 @@
 #![tactic(auto)]
 
 mod generator;
-mod laws;
 mod operation;
 mod origin;
 mod part;
@@ -18,5 +17,4 @@ mod symbol;
 mod table;
 mod words;
 
-pub use laws::law_of_symbols;
 pub use symbol::{BadHall, Generators, read};

@@ -1,9 +1,6 @@
 -- The generators that operations of a file give.
-use Rattle.std.proofs.Common.{◌≡◌, refl, sym, ap, ◌∙◌, subst, ℕ, suc, ◌+◌, ◌<◌, inl, inr, Bool, true, false, ◌==◌, ℤ, pos, ◌*ℤ◌, List, [], ◌∷◌, ◌++◌, length, map, take, get_or, Option, Some, None, arith}
+use Rattle.std.proofs.Common.{◌≡◌, sym, ap, subst, ℕ, ◌<◌, inl, inr, ℤ, pos, ◌*ℤ◌, List, [], length, map, get_or, slice_index_or, arith}
 use Rattle.std.proofs.lemmas.List.{get_or-map, length-map}
-use Rattle.std.proofs.Math.Seq.{take-suc}
-use Rattle.std.specs.List.{All}
-use Rattle.algebra.specs.Whole.{whole}
 use Rattle.iso_text.specs.RangeLaws.{AreThree-entries}
 use Rattle.iso_text.specs.Ranges as ranges
 use Rattle.iso_text.specs.WordRanges.{IsOperation, IsWithin}
@@ -14,27 +11,21 @@ use Rattle.space_ops.specs.declared.op.Op.{Op}
 use Rattle.space_ops.specs.Group.{AreGenerators}
 use Rattle.space_ops.specs.LeastShift.{IsInCell, reduced_vector}
 use Rattle.space_ops.specs.LeastShiftLaws.{twelfth-rem}
-use Rattle.space_ops.specs.Matrix.{Vector, determinant}
-use Rattle.space_ops.specs.Op.{matrix_of, vector_of, identity_op, IsSmallRotation, IsSmallMatrix, IsUnimodular}
-use Rattle.space_ops.specs.Words.{op_at}
+use Rattle.space_ops.specs.Matrix.{Vector}
+use Rattle.space_ops.specs.Op.{matrix_of, vector_of, identity_op, row_at, IsShiftWithin, IsSmallRotation, IsSmallMatrix, IsUnimodular}
 use Rattle.iso_report.specs.Generators.{operation_of, op_line_at, HasUnitDeterminant, AreGood}
 
 -- the entries of an operation of a file are small
 pub small_rotation : (op : OpText) → IsOperation op → IsSmallRotation op.rows
 small_rotation op is =
-    let at : (i j : ℕ) → i < 3 → j < 3 → IsWithin 3 _ = λ i j l m. AreThree-entries (IsWithin 3) op.rows i j [] (pos 0) is.rows l m in
-    let row : (i : ℕ) → i < 3 → _ = λ i l. (at i 0 l (omega arith), at i 1 l (omega arith), at i 2 l (omega arith)) in
+    let at : (i j : ℕ) → i < 3 → j < 3 → IsWithin 3 (slice_index_or (slice_index_or op.rows i []) j (pos 0)) =
+    λ i j l m. AreThree-entries (IsWithin 3) op.rows i j [] (pos 0) is.rows l m in
+    let row : (i : ℕ) → i < 3 → IsShiftWithin 3 (row_at op.rows i) = λ i l. (at i 0 l (omega arith), at i 1 l (omega arith), at i 2 l (omega arith)) in
     (row 0 (omega arith), row 1 (omega arith), row 2 (omega arith))
 
 pub unit-unimodular : (rot : List (List ℤ)) → HasUnitDeterminant rot → IsUnimodular (matrix_of rot)
 unit-unimodular rot (inl e) = ap (λ x. x *ℤ x) e
 unit-unimodular rot (inr e) = ap (λ x. x *ℤ x) e
-
--- the operations so far, and one more
-pub map_more : {X Y : Type 0} (f : X → Y) (xs : List X) (i : ℕ) (d : X) → i < length xs → map f (take (i + 1) xs) ≡ map f (take i xs) ++ f (get_or xs i d) ∷ []
-map_more f [] i d l = absurd (omega arith)
-map_more f (x ∷ xs) zero d l = refl
-map_more f (x ∷ xs) (suc i) d l = ap (λ t. f x ∷ t) (map_more f xs i d (omega arith))
 
 reduced_in_cell : (v : Vector ℤ) → IsInCell (reduced_vector v)
 reduced_in_cell v = (twelfth-rem v.x, twelfth-rem v.y, twelfth-rem v.z)

@@ -1,10 +1,7 @@
 pub mod CheckLemmas
+pub mod EndingLemmas
 pub mod GeneratorLemmas
-pub mod LetterLemmas
-pub mod OutcomeLemmas
 pub mod SignFileLemmas
 pub mod SignGroupLemmas
 pub mod SignListingLemmas
 pub mod SignReportLemmas
-pub mod TranslationLemmas
-pub mod UniqueLemmas

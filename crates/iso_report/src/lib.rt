@@ -10,7 +10,6 @@ mod division;
 mod found;
 mod generators;
 mod job;
-mod laws;
 mod outcome;
 mod parent;
 mod reading;
@@ -25,6 +24,5 @@ mod sign_report;
 mod step;
 
 pub use job::Job;
-pub use laws::law_of_outcomes;
 pub use outcome::run;
 pub use refusal::{Refusal, RunError, refusal_line};

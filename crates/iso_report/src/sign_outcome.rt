@@ -29,9 +29,7 @@ fn listing_of(alloc: Global, file: SignFile) -> Result<Step<Found>, NoMemory>
     if let Some((a, b)) = first_failing(operations.as_slice(), values) {
         let left = operation(operations.as_slice(), a);
         let right = operation(operations.as_slice(), b);
-        return Ok(Step::Refused(Refusal::NotMultiplying(
-            file.name, left, right,
-        )));
+        return Ok(Step::Refused(Refusal::NotMultiplying(file.name, left, right)));
     }
     let directions = directions(alloc, file.symbol, values)?;
     Ok(Step::Passed(Found::Listed(SignFound { file, directions })))
