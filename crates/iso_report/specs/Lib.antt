@@ -1,5 +1,6 @@
 pub mod Finding
 pub mod Steps
+pub mod StepLaws
 pub mod Contexts
 pub mod Generators
 pub mod Stages
@@ -15,5 +16,6 @@ pub mod SignOutcome
 pub mod SignTexts
 pub mod Report
 pub mod Outcome
+pub mod OutcomeLaws
 pub mod Endings
 pub mod Found

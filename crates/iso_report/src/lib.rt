@@ -10,6 +10,7 @@ mod division;
 mod found;
 mod generators;
 mod job;
+mod laws;
 mod outcome;
 mod parent;
 mod reading;
@@ -24,5 +25,6 @@ mod sign_report;
 mod step;
 
 pub use job::Job;
+pub use laws::law_of_outcomes;
 pub use outcome::run;
 pub use refusal::{Refusal, RunError, refusal_line};
