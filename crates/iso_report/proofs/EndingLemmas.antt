@@ -1,5 +1,5 @@
 -- A sink that was not written to.
-use Rattle.std.proofs.Common.{◌≡◌, ◌++◌, ℕ, List, [], Option, Some, None, sym, ap}
+use Rattle.std.proofs.Common.{ℕ, List, [], Option, Some, None, sym, ap}
 use Rattle.std.proofs.lemmas.List.{append-nil}
 use Rattle.iso_text.specs.Streams.{GrownBy}
 

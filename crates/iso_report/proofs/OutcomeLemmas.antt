@@ -2,7 +2,7 @@
 use Rattle.std.proofs.Common.{◌∙◌, sym}
 use Rattle.iso_text.specs.FileLaws.{FilesAreUnique, CausesAreUnique, FilesHaveNoCause}
 use Rattle.iso_report.specs.declared.job.Job.TheVariants as job
-use Rattle.iso_report.specs.Outcome.{IsFound, AfterParent, AfterBuilt, AfterText, IsFoundIn}
+use Rattle.iso_report.specs.Outcome.{IsFound, AfterParent, AfterBuilt, AfterText}
 use Rattle.iso_report.specs.OutcomeLaws.{HasOneOutcome}
 use Rattle.iso_report.specs.Stages.{RefusesText, IsRead, RefusesUnbuilt, IsBuilt, RefusesParent, IsParented, RefusesOrder, IsDivided}
 use Rattle.iso_report.specs.StepLaws.{FindsOne, After-single}

@@ -1,6 +1,5 @@
 -- Each step of the work has one answer.
-use Rattle.std.proofs.Common.{◌≡◌, refl, sym, ap, ◌∙◌, subst, ◌⊎◌, inl, inr, ℕ, ◌<◌, ◌≤◌, ℤ, List, Option, Some, None, arith}
-use Rattle.iso_text.specs.File.{IsFile, HasCause}
+use Rattle.std.proofs.Common.{◌≡◌, sym, ap, ◌∙◌, subst, inl, inr, ℕ, ◌<◌, ◌≤◌, ℤ, List, Option, Some, None, arith}
 use Rattle.iso_text.specs.FileLaws.{FilesAreUnique, CausesAreUnique, FilesHaveNoCause}
 use Rattle.iso_text.specs.FileValue.{File}
 use Rattle.iso_text.specs.Lines.{lines_of}

@@ -3,7 +3,7 @@
 -- RefusesForm, IsFormed: the bytes have the form of such a file
 -- RefusesLaw, IsLawful: its values multiply as the operations do
 -- IsFirstListing bytes f: the listing of such a file
-use Rattle.std.specs.Prelude.{◌≡◌, ◌⊎◌, ℕ, List}
+use Rattle.std.specs.Prelude.{◌≡◌, ℕ, List}
 use Rattle.iso_report.specs.declared.refusal.Refusal.{Refusal}
 use Rattle.iso_report.specs.declared.refusal.Refusal.TheVariants as refusal
 use Rattle.iso_report.specs.declared.sign_file.SignFile.{SignFile}

@@ -4,7 +4,7 @@
 -- RefusesUnbuilt, IsBuilt: what is built of files so far
 -- RefusesParent, IsParented: the parent group
 -- RefusesOrder, IsDivided: the parent group modulo the supercell of the wave vectors
-use Rattle.std.specs.Prelude.{◌≡◌, ◌⊎◌, ℕ, ◌<◌, ◌≤◌, List, [], length, map}
+use Rattle.std.specs.Prelude.{◌≡◌, ◌⊎◌, ℕ, ◌<◌, ◌≤◌, List, length, map}
 use Rattle.iso_text.specs.File.{IsFile, HasCause}
 use Rattle.iso_text.specs.FileValue.{File}
 use Rattle.iso_text.specs.Lines.{lines_of}
