@@ -9,6 +9,7 @@
 #![tactic(auto)]
 
 mod generator;
+mod laws;
 mod operation;
 mod origin;
 mod part;
@@ -17,4 +18,5 @@ mod symbol;
 mod table;
 mod words;
 
+pub use laws::law_of_symbols;
 pub use symbol::{BadHall, Generators, read};

@@ -1,5 +1,10 @@
 pub mod CheckLemmas
-pub mod FileLemmas
-pub mod GroupLemmas
-pub mod ListingLemmas
-pub mod ReportLemmas
+pub mod EndingLemmas
+pub mod GeneratorLemmas
+pub mod OutcomeLemmas
+pub mod SignFileLemmas
+pub mod SignGroupLemmas
+pub mod SignListingLemmas
+pub mod SignReportLemmas
+pub mod TranslationLemmas
+pub mod UniqueLemmas

@@ -1,15 +1,17 @@
 -- The report of `check` on a file with no irrep.
 --
+-- first_line format: the first line
 -- supercell_line d order: the multipliers and the order
--- check_text s: the report on a quotient
+-- check_text d: the report on a parent group and its quotient
 use Rattle.std.specs.Prelude.{ℕ, List, [], ◌∷◌, ◌++◌, length, flat_map, codes, decimal}
 use Rattle.space_ops.specs.declared.lattice.Lattice.{Lattice}
 use Rattle.space_ops.specs.declared.op.Op.{Op}
 use Rattle.space_ops.specs.Lattice.{centrings_of, letter_of}
 use Rattle.space_ops.specs.OpText.{text_of}
 use Rattle.super_group.specs.Supercell.{multiplier}
-use Rattle.super_group.specs.Quotient.{SupercellGroup, order_of}
+use Rattle.super_group.specs.Quotient.{order_of}
 use Rattle.iso_text.specs.Lines.{line}
+use Rattle.iso_report.specs.Contexts.{Divided}
 
 -- the line of an operation
 abbrev pub listed_line : Op → List ℕ
@@ -24,8 +26,13 @@ abbrev pub supercell_line : List ℕ → ℕ → List ℕ
 supercell_line d order =
     line (codes "supercell " ++ decimal (multiplier d 0) ++ codes " " ++ decimal (multiplier d 1) ++ codes " " ++ decimal (multiplier d 2) ++ codes " order " ++ decimal order) []
 
+-- the first line, with the file's format
+abbrev pub first_line : ℕ → List ℕ
+first_line format = codes "isodist " ++ decimal format ++ codes " check"
+
 -- the lattice, the listed operations in order, and the supercell
-abbrev pub check_text : SupercellGroup → List ℕ
-check_text s =
-    line (codes "isodist 1 check") (line (lattice_line s.parent.lattice (length (centrings_of s.parent.lattice)) (length s.parent.ops))
+abbrev pub check_text : Divided → List ℕ
+check_text d =
+    let s = d.quotient in
+    line (first_line d.file.format) (line (lattice_line s.parent.lattice (length (centrings_of s.parent.lattice)) (length s.parent.ops))
     (flat_map listed_line s.parent.ops ++ supercell_line s.d (order_of s)))

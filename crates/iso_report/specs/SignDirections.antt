@@ -3,9 +3,9 @@
 -- direction_of dim stabiliser: the direction of this dimension, 0 or 1
 -- IsAll n hs: hs is the rising list of all numbers below n
 -- IsKernel values hs: that of the operations with the value 1
-use Rattle.std.specs.Prelude.{◌≡◌, ℕ, ◌<◌, zero, suc, ℤ, List, [], ◌∷◌, length, pos, Contains, slice_index_or}
+use Rattle.std.specs.Prelude.{◌≡◌, ℕ, zero, suc, ℤ, List, [], ◌∷◌, length, pos, slice_index_or}
 use Rattle.algebra.specs.RisingLists.{IsRisingListOf}
-use Rattle.iso_report.specs.Directions.{Direction}
+use Rattle.iso_report.specs.SignListing.{Direction}
 use Rattle.iso_report.specs.declared.sign_file.Sign.{Sign}
 use Rattle.iso_report.specs.declared.sign_file.Sign.TheVariants.{Plus}
 

@@ -12,7 +12,7 @@ use Rattle.std.specs.Cmp.Lexicographic.{pointwise}
 use Rattle.algebra.specs.NumberedGroup.{Group}
 use Rattle.space_ops.specs.declared.op.Op.{Op}
 use Rattle.space_ops.specs.Op.{product_of, IsSmallRotation, IsShiftWithin}
-use Rattle.iso_report.specs.Action.{Action}
+use Rattle.iso_report.specs.SignAction.{Action}
 use Rattle.iso_report.specs.declared.sign_file.Sign.{Sign}
 use Rattle.iso_report.specs.declared.sign_file.Sign.TheVariants.{Plus, Minus}
 

@@ -2,14 +2,24 @@
 ghost use Rattle.std.specs.Prelude.{◌≡◌, ◌≤◌, ◌++◌, [], IfOk, OnOk, length, flat_map, codes, decimal};
 ghost use Rattle.space_ops.specs.Lattice.{centrings_of};
 ghost use Rattle.space_ops.specs.OpText.{text_of};
-ghost use Rattle.iso_report.specs.Check.{lattice_line, listed_line, supercell_line, check_text};
+ghost use Rattle.iso_report.specs.Check.{first_line, lattice_line, listed_line, supercell_line, check_text};
 ghost use Rattle.iso_text.specs.Lines.{line};
 
-use crate::report::op_line;
+use crate::context::Divided;
 use iso_text::{NoMemory, Text};
-use space_ops::{Group, Lattice};
+use space_ops::{Group, Lattice, Op};
 use std::alloc::Global;
-use super_group::Quotient;
+
+// The first line, without its line feed.
+fn first_line(alloc: Global, format: u8) -> Result<Text, NoMemory>
+    ensures { IfOk result (λ text. text ≡ first_line format) }
+{
+    let mut text = Text::new(alloc);
+    text.push(b"isodist ")?;
+    text.push_number(u64::from(format))?;
+    text.push(b" check")?;
+    Ok(text)
+}
 
 // The line of the lattice, without its line feed.
 fn lattice_text(alloc: Global, lattice: Lattice, rotations: usize) -> Result<Text, NoMemory>
@@ -43,6 +53,17 @@ fn supercell_text(alloc: Global, d: [u32; 3], order: usize) -> Result<Text, NoMe
     Ok(text)
 }
 
+/// The line of an operation.
+pub fn op_line(alloc: Global, op: Op) -> Result<Text, NoMemory>
+    ensures { IfOk result (λ text. text ≡ line (codes "op " ++ text_of op) []) }
+{
+    let mut text = Text::new(alloc);
+    text.push(b"op ")?;
+    text.push(op.print(alloc)?.as_slice())?;
+    text.push(b"\n")?;
+    Ok(text)
+}
+
 // Adds the lines of the listed operations.
 fn push_listed(alloc: Global, text: &mut Text, group: &Group) -> Result<(), NoMemory>
     ensures { OnOk result (text.new ≡ text.old ++ flat_map listed_line group.now.ops) }
@@ -56,14 +77,15 @@ fn push_listed(alloc: Global, text: &mut Text, group: &Group) -> Result<(), NoMe
 
 /// The report of `check` on a parent group and its quotient: the lattice, the operations, the
 /// multipliers of the supercell and the order of the quotient.
-pub fn check_report(alloc: Global, quotient: &Quotient) -> Result<Text, NoMemory>
-    ensures { IfOk result (λ text. text ≡ check_text quotient.now) }
+pub fn check_report(alloc: Global, divided: &Divided) -> Result<Text, NoMemory>
+    ensures { IfOk result (λ text. text ≡ check_text divided.now) }
 {
+    let quotient = &divided.quotient;
     let group = quotient.group();
     let lattice = group.lattice();
     let rotations = group.len();
-    let mut text = Text::new(alloc);
-    text.push(b"isodist 1 check\n")?;
+    let mut text = first_line(alloc, divided.document.format())?;
+    text.push(b"\n")?;
     text.push(lattice_text(alloc, lattice, rotations)?.as_slice())?;
     text.push(b"\n")?;
     push_listed(alloc, &mut text, group)?;

@@ -5,16 +5,26 @@
 #![tactic(auto)]
 
 mod check;
-mod direction;
-mod directions;
+mod context;
+mod division;
 mod found;
+mod generators;
 mod job;
+mod laws;
 mod outcome;
+mod parent;
+mod reading;
 mod refusal;
-mod report;
+mod sign_direction;
 mod sign_file;
+mod sign_found;
+mod sign_listing;
+mod sign_outcome;
 mod sign_rep;
+mod sign_report;
+mod step;
 
 pub use job::Job;
+pub use laws::law_of_outcomes;
 pub use outcome::run;
 pub use refusal::{Refusal, RunError, refusal_line};

@@ -1,5 +1,5 @@
 use Rattle.std.proofs.Common.{◌∙◌, ap, ◌++◌}
-use Rattle.iso_report.proofs.FileLemmas.{irrep_value}
+use Rattle.iso_report.proofs.SignFileLemmas.{irrep_value}
 use Rattle.iso_report.proofs.sign_file.after_irrep.Goals as goal
 
 pub returns : goal.returns

@@ -1,5 +1,5 @@
 use Rattle.std.proofs.Common.{◌∷◌, ◌++◌}
-use Rattle.iso_report.proofs.FileLemmas.{after_both, append_cancel}
+use Rattle.iso_report.proofs.SignFileLemmas.{after_both, append_cancel}
 use Rattle.iso_report.proofs.sign_file.after_line.Goals as goal
 
 pub returns : goal.returns

@@ -1,7 +1,7 @@
 use Rattle.std.proofs.Common.{codes}
 use Rattle.iso_text.specs.Lines.{line}
 use Rattle.iso_report.specs.SignFile.{irrep_line}
-use Rattle.iso_report.proofs.FileLemmas.{after_both, irrep_line_cancel}
+use Rattle.iso_report.proofs.SignFileLemmas.{after_both, irrep_line_cancel}
 use Rattle.iso_report.proofs.sign_file.after_vector.Goals as goal
 
 pub returns : goal.returns

@@ -1,4 +1,4 @@
-use Rattle.iso_report.proofs.FileLemmas.{name_of_irrep, that_name}
+use Rattle.iso_report.proofs.SignFileLemmas.{name_of_irrep, that_name}
 use Rattle.iso_report.proofs.sign_file.irrep_name.Goals as goal
 
 pub returns : goal.returns

@@ -1,5 +1,5 @@
 use Rattle.std.proofs.Common.{◌∙◌, sym}
-use Rattle.iso_report.proofs.FileLemmas.{no_space, name_of_front}
+use Rattle.iso_report.proofs.SignFileLemmas.{no_space, name_of_front}
 use Rattle.iso_report.proofs.sign_file.name_before_space.Goals as goal
 
 pub returns-in_default : goal.returns-in_default

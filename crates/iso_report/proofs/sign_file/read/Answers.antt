@@ -1,4 +1,4 @@
-use Rattle.iso_report.proofs.FileLemmas.{no_file}
+use Rattle.iso_report.proofs.SignFileLemmas.{no_file}
 use Rattle.iso_report.specs.SignFile.{irrep_lines}
 use Rattle.iso_report.proofs.sign_file.read.Goals as goal
 

@@ -1,5 +1,5 @@
 use Rattle.std.proofs.Common.{◌∙◌, ap, slice_get}
-use Rattle.iso_report.proofs.FileLemmas.{not_values, not_false}
+use Rattle.iso_report.proofs.SignFileLemmas.{not_values, not_false}
 use Rattle.iso_report.proofs.sign_file.read_all_values.Goals as goal
 use Rattle.iso_report.proofs.sign_file.read_all_values.Goals.{else-is_end-via-then-is_end+else-begins_with_one, else-is_end-via-else-is_end}
 

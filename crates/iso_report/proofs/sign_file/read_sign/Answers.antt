@@ -1,4 +1,4 @@
-use Rattle.iso_report.proofs.FileLemmas.{no_sign}
+use Rattle.iso_report.proofs.SignFileLemmas.{no_sign}
 use Rattle.iso_report.proofs.sign_file.read_sign.Goals as goal
 
 pub returns-in_default-after_line-2 : goal.returns-in_default-after_line-2

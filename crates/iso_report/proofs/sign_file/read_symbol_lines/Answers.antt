@@ -1,4 +1,4 @@
-use Rattle.iso_report.proofs.FileLemmas.{symbol_of_lines}
+use Rattle.iso_report.proofs.SignFileLemmas.{symbol_of_lines}
 use Rattle.iso_report.proofs.sign_file.read_symbol_lines.Goals as goal
 
 pub returns : goal.returns

@@ -1,7 +1,7 @@
 use Rattle.std.proofs.Common.{◌∙◌, ◌++◌, ◌+◌, take, sym, ap, arith}
 use Rattle.iso_text.specs.Lines.{line}
 use Rattle.iso_report.specs.SignFile.{sign_text, mats_text}
-use Rattle.iso_report.proofs.FileLemmas.{mats_more, no_value}
+use Rattle.iso_report.proofs.SignFileLemmas.{mats_more, no_value}
 use Rattle.iso_report.proofs.sign_file.read_values.Goals as goal
 
 pub returns-in_default : goal.returns-in_default

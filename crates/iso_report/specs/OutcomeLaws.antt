@@ -1,0 +1,10 @@
+-- What the definition of an outcome settles, for any file's bytes.
+--
+-- HasOneOutcome job: a job finds at most one thing in the bytes of a file. No family of numbers is wide yet
+use Rattle.std.specs.Prelude.{◌≡◌, ℕ, List}
+use Rattle.iso_report.specs.declared.job.Job.{Job}
+use Rattle.iso_report.specs.Finding.{Finding}
+use Rattle.iso_report.specs.Outcome.{IsOutcome}
+
+abbrev pub HasOneOutcome : Job → Type 0
+HasOneOutcome job = (bytes : List ℕ) (f g : Finding) → IsOutcome job bytes f → IsOutcome job bytes g → f ≡ g

@@ -1,0 +1,30 @@
+-- The law of a step: one answer of each step makes one finding.
+--
+-- IsSingle refuses passes: a step has one answer
+-- After-single: one finding behind a step with one answer, where no family of numbers is wide
+use Rattle.std.proofs.Common.{◌≡◌, sym, ap, ◌∙◌, subst, ℕ, inl, inr}
+use Rattle.iso_report.specs.declared.refusal.Refusal.{Refusal}
+use Rattle.iso_report.specs.Finding.{Finding, refused}
+use Rattle.iso_report.specs.Steps.{After}
+
+-- at most one refusal, at most one value that passes, and not both
+pub record IsSingle {A B : Type 0} (refuses : A → Refusal → Type 0) (passes : A → B → Type 0) : Type 0 where
+  pub refusal : (a : A) (r s : Refusal) → refuses a r → refuses a s → r ≡ s
+  pub value : (a : A) (b c : B) → passes a b → passes a c → b ≡ c
+  pub apart : (a : A) (r : Refusal) (b : B) → refuses a r → passes a b → ⊥
+
+-- what next finds is one
+abbrev pub FindsOne : {B : Type 0} → (B → Finding → Type 0) → Type 0
+FindsOne {B} next = (b : B) (f g : Finding) → next b f → next b g → f ≡ g
+
+pub After-single : {A B : Type 0} (refuses : A → Refusal → Type 0) (wide : A → ℕ → Type 0) (passes : A → B → Type 0) (next : B → Finding → Type 0)
+    → IsSingle refuses passes → ((a : A) (k : ℕ) → wide a k → ⊥) → FindsOne next → FindsOne (After refuses wide passes next)
+After-single refuses wide passes next s w n a f g (inl (r, x, e)) (inl (q, y, h)) = e ∙ ap refused (s.refusal a r q x y) ∙ sym h
+After-single refuses wide passes next s w n a f g (inl (r, x, e)) (inr (inl (k, y, h))) = absurd (w a k y)
+After-single refuses wide passes next s w n a f g (inl (r, x, e)) (inr (inr (c, q, m))) = absurd (s.apart a r c x q)
+After-single refuses wide passes next s w n a f g (inr (inl (k, x, e))) h = absurd (w a k x)
+After-single refuses wide passes next s w n a f g (inr (inr (b, p, k))) (inl (q, y, h)) = absurd (s.apart a q b y p)
+After-single refuses wide passes next s w n a f g (inr (inr (b, p, k))) (inr (inl (i, y, h))) = absurd (w a i y)
+After-single {A} {B} refuses wide passes next s w n a f g (inr (inr (b, p, k))) (inr (inr (c, q, m))) =
+    let P : B → Type 0 = λ x. next x f in
+    n c f g (subst P (s.value a b c p q) k) m
