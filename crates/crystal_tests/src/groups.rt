@@ -51,8 +51,16 @@ fn is_diamond(group: &Group) -> bool {
     group.len() == 48 && group.lattice() == Lattice::F && group.generators() == DIAMOND.as_slice()
 }
 
+fn last(group: &Group) -> Option<Op> {
+    if group.len() == 48 {
+        Some(group.op(47))
+    } else {
+        None
+    }
+}
+
 fn end_alike(one: &Group, other: &Group) -> bool {
-    one.len() == 48 && other.len() == 48 && one.op(47) == other.op(47)
+    last(one).is_some() && last(one) == last(other)
 }
 
 #[test]

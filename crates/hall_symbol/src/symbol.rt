@@ -17,8 +17,8 @@ use crate::origin::{is_byte, shift_at};
 use crate::part::{part_in, sign_at};
 use crate::rotation::Rotation;
 use crate::words::next_word;
-use iso_text::trimmed;
 use arrayvec::ArrayVec;
+use iso_text::trimmed;
 use space_ops::{Lattice, Op};
 use thiserror::Error;
 

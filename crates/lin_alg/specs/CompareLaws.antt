@@ -1,13 +1,41 @@
--- What equality of forms, by the entries of their rows, tells.
+-- What comparing forms by the entries of their rows obeys.
 --
+-- lines_equiv, lines_total, lines_ties, lines_po, lines_respects: laws of equality, order and hash
 -- lines-equal, equal-lines: reduced rows of one width have equal entries exactly where their exact rows are equal
 use Rattle.std.proofs.Common.{◌≡◌, ◌↔◌, inl, inr, ℕ, suc, Bool, true, false, ◌&&◌, List, [], ◌∷◌, length, map, get_or, refl, sym, ◌∙◌, ap, subst, arith}
-use Rattle.std.specs.Cmp.Lexicographic.{pointwise}
+use Rattle.std.specs.Prelude.{Some}
+use Rattle.std.specs.declared.cmp.Ordering.{Ordering}
+use Rattle.std.specs.Ordering.{on, eq_by_cmp}
+use Rattle.std.specs.Cmp.{IsTotalOrder, IsEquivalence, IsPartialOrder, po}
+use Rattle.std.specs.Cmp.Lexicographic.{slice_cmp, pointwise, lists_ties}
+use Rattle.std.proofs.lemmas.Cmp.{on_equiv, on_total, lists_equiv, lists_total}
+use Rattle.std.specs.Hash.{HashWrites, Alike, on_Alike, items_Alike}
 use Rattle.cyclo24.specs.ExactField.{ExactField, Value}
 use Rattle.lin_alg.specs.Reduced.{IsReduced, EndsAt}
 use Rattle.lin_alg.specs.SpanLaws.{order, unit-not-nought}
 use Rattle.lin_alg.specs.Rows.{vector, exact_rows, HaveWidth}
-use Rattle.lin_alg.specs.Compared.{lines_eq}
+use Rattle.lin_alg.specs.Compared.{lines_cmp, lines_eq, lines_fed}
+
+pub lines_equiv : {A : Type 0} {E : A → A → Bool} → IsEquivalence E → IsEquivalence (lines_eq E)
+lines_equiv e = lists_equiv (on_equiv (λ r. r.1) (lists_equiv e))
+
+pub lines_total : {A : Type 0} {R : A → A → Ordering} → IsTotalOrder R → IsTotalOrder (lines_cmp R)
+lines_total o = lists_total (on_total (λ r. r.1) (lists_total o))
+
+pub lines_ties : {A : Type 0} {E : A → A → Bool} (R : A → A → Ordering) → ((x y : A) → E x y ≡ eq_by_cmp R x y) →
+    (xs ys : List (ℕ × List A)) → lines_eq E xs ys ≡ eq_by_cmp (lines_cmp R) xs ys
+lines_ties R t = lists_ties (on (λ r. r.1) (slice_cmp R)) (λ x y. lists_ties R t x.1 y.1)
+
+pub lines_po : {A K : Type 0} {E : A → A → Bool} {R : A → A → Ordering} (rows : K → List (ℕ × List A)) → IsTotalOrder R → ((x y : A) → E x y ≡ eq_by_cmp R x y) →
+    IsPartialOrder (λ a b. lines_eq E (rows a) (rows b)) (λ a b. Some (lines_cmp R (rows a) (rows b)))
+lines_po {R = R} rows o t = po (on_total rows (lines_total o)) (λ a b. lines_ties R t (rows a) (rows b))
+
+lines_alike : {A K : Type 0} {E : A → A → Bool} {F : A → HashWrites} (rows : K → List (ℕ × List A)) → Alike E F → Alike (λ a b. lines_eq E (rows a) (rows b)) (λ a. lines_fed F (rows a))
+lines_alike rows a = on_Alike rows (items_Alike (on_Alike (λ r. r.1) (items_Alike a)))
+
+pub lines_respects : {A K : Type 0} {E : A → A → Bool} {F : A → HashWrites} (rows : K → List (ℕ × List A)) → ((x y : A) → E x y ≡ true → F x ≡ F y) →
+    (a b : K) → lines_eq E (rows a) (rows b) ≡ true → lines_fed F (rows a) ≡ lines_fed F (rows b)
+lines_respects rows h a b = (lines_alike rows (record { fed = h })).fed a b
 
 both-true : (a b : Bool) → (a && b) ≡ true → (a ≡ true) × (b ≡ true)
 both-true true b h = (refl, h)

@@ -1,6 +1,6 @@
 -- How many rows a form has.
 --
--- form-of: rows have a reduced form of their span, no longer than they are
+-- span-form: rows have a reduced form of their span, no longer than they are
 -- image-length: the equations of q U are no more than those of U
 -- conjugate-length: they are as many
 use Rattle.std.proofs.Common.{◌≡◌, ◌↔◌, ℕ, suc, zero, ◌<◌, ◌≤◌, ◌⊎◌, inl, inr, true, false, List, [], ◌∷◌, length, refl, sym, ◌∙◌, ap, subst, arith, ltb, if◌then◌else◌}
@@ -46,11 +46,11 @@ module _ {K : Type 0} (f : FieldOn K) where
 
   module _ (w : ℕ) where
     -- rows have a reduced form of their span, no longer than they are
-    pub form-of : (rows : List (ℕ → K)) → HasRows (IsWithin f w) rows →
+    pub span-form : (rows : List (ℕ → K)) → HasRows (IsWithin f w) rows →
         (ss : List (ℕ × (ℕ → K))) × IsReduced f ss × ((x : ℕ → K) → IsInSpan f (row_vectors ss) x ↔ IsInSpan f rows x) × (length ss ≤ length rows)
-    form-of [] a = ([], tt, λ x. (λ h. h, λ h. h), omega arith)
-    form-of (r ∷ rs) a =
-        let old = form-of rs a.1 in
+    span-form [] a = ([], tt, λ x. (λ h. h, λ h. h), omega arith)
+    span-form (r ∷ rs) a =
+        let old = span-form rs a.1 in
         let os : List (ℕ × (ℕ → K)) = old.0 in
         let v : ℕ → K = r in
         let few : length os ≤ length rs = old.3 in
@@ -103,7 +103,7 @@ module _ (f : ExactField) (act : Action) where
   image-length q us xs r e =
       let rows : List (ℕ → Value f) = row_images f.laws act q (row_vectors us) in
       let inside : HasRows (IsWithin f.laws act.dim) rows = images-within f act q (row_vectors us) in
-      let s = form-of f.laws act.dim rows inside in
+      let s = span-form f.laws act.dim rows inside in
       let ss : List (ℕ × (ℕ → Value f)) = s.0 in
       let within : HasRows (IsWithin f.laws act.dim) (row_vectors ss) =
       rows-mono f.laws (IsInSpan f.laws (row_vectors ss)) (IsWithin f.laws act.dim) (λ x k. span-least f.laws (IsWithin f.laws act.dim) (within-subspace f.laws act.dim) rows inside x ((s.2 x).0 k)) (row_vectors ss) (span-rows f.laws (row_vectors ss)) in

@@ -7,9 +7,9 @@
 use Rattle.std.proofs.Common.{◌≡◌, refl, sym, ap, ◌∙◌, ℕ, zero, suc, ◌<◌, Bool, true, false, ℤ, List, [], ◌∷◌, length, set, arith}
 use mathlib.Core.Bool.{Bool-set}
 use Rattle.algebra.specs.NumberedGroup.{IsGroup, IsGenerated, word}
-use Rattle.cyclo24.specs.ExactField.{ExactField, Value, lift, lift_by}
+use Rattle.cyclo24.specs.ExactField.{ExactField, Value}
 use Rattle.cyclo24.specs.FieldLaws.{nought-plus, neg-neg, times-neg}
-use Rattle.lin_alg.specs.Action.{Action, IsAction, entry_of}
+use Rattle.lin_alg.specs.Action.{Action, IsAction, entry_of, lift, lift_by}
 use Rattle.lin_alg.specs.Matrices.{AreEqualBelow, mul, unit_entry, IsRepresentation}
 use Rattle.lin_alg.specs.Rows.{vector}
 use Rattle.number_tests.specs.SignAction.{sign_action, sign_group, sign_product, sign_value}
@@ -47,13 +47,13 @@ generated zero l = ∣ ([], tt, refl) ∣₁
 generated (suc a) l = let one : suc a ≡ 1 = omega arith in ∣ (0 ∷ [], (omega arith, tt), one) ∣₁
 
 module _ (f : ExactField) where
-  lift_by-value : (x : Value f) (b : Bool) (e : f.valid x.0 ≡ b) → lift_by f x.0 b e ≡ x
+  lift_by-value : (x : Value f) (b : Bool) (e : f.valid x.0 ≡ b) → lift_by f.laws x.0 b e ≡ x
   lift_by-value x true e = λ i. (x.0, Bool-set (f.valid x.0) true e x.1 i)
   lift_by-value x false e = absurd (differ (sym x.1 ∙ e)) where
     differ : true ≡ false → ⊥
     differ h = cc
 
-  pub lift-value : (x : Value f) → lift f x.0 ≡ x
+  pub lift-value : (x : Value f) → lift f.laws x.0 ≡ x
   lift-value x = lift_by-value x (f.valid x.0) refl
 
   -- the numbers multiply as the elements
@@ -66,21 +66,21 @@ module _ (f : ExactField) where
   value-product false (suc a) (suc b) = sym (f.laws.times-unit f.laws.unit)
 
   module _ (minus : Bool) where
-    entry-value : (q i j : ℕ) → entry_of f (sign_action f minus) q i j ≡ sign_value f minus q
+    entry-value : (q i j : ℕ) → entry_of f.laws (sign_action f minus) q i j ≡ sign_value f minus q
     entry-value q i j = lift-value (sign_value f minus q)
 
-    unit : AreEqualBelow 1 (entry_of f (sign_action f minus) 0) (unit_entry f.laws)
+    unit : AreEqualBelow 1 (entry_of f.laws (sign_action f minus) 0) (unit_entry f.laws)
     unit zero zero l m = entry-value 0 0 0
     unit zero (suc j) l m = absurd (omega arith)
     unit (suc i) j l m = absurd (omega arith)
 
-    multiplies : IsRepresentation f.laws sign_group 1 (entry_of f (sign_action f minus))
+    multiplies : IsRepresentation f.laws sign_group 1 (entry_of f.laws (sign_action f minus))
     multiplies a b la lb i j l m =
         entry-value (sign_product a b) i j ∙ value-product minus a b
-        ∙ sym (nought-plus f.laws (f.laws.times (entry_of f (sign_action f minus) a i 0) (entry_of f (sign_action f minus) b 0 j))
+        ∙ sym (nought-plus f.laws (f.laws.times (entry_of f.laws (sign_action f minus) a i 0) (entry_of f.laws (sign_action f minus) b 0 j))
         ∙ (λ t. f.laws.times (entry-value a i 0 t) (entry-value b 0 j t)))
 
-    pub sign_lawful : IsAction f (sign_action f minus)
+    pub sign_lawful : IsAction f.laws (sign_action f minus)
     sign_lawful = record {
       group = sign_group-lawful;
       generator_below = λ i l. omega arith;
@@ -111,7 +111,7 @@ module _ (f : ExactField) where
 
   -- a row of one number
   pub sign_row : {T : Type 0} (value : T → Value f) (minus : Bool) (q i : ℕ) (x : T) (xs : List T) → length xs ≡ 1 → value x ≡ sign_value f minus q
-      → (j : ℕ) → j < 1 → vector f value (set xs 0 x) j ≡ entry_of f (sign_action f minus) q i j
+      → (j : ℕ) → j < 1 → vector f.laws value (set xs 0 x) j ≡ entry_of f.laws (sign_action f minus) q i j
   sign_row value minus q i x [] n e j l = absurd (omega (arith, n))
   sign_row value minus q i x (y ∷ ys) n e zero l = e ∙ sym (lift-value (sign_value f minus q))
   sign_row value minus q i x (y ∷ ys) n e (suc j) l = absurd (omega arith)

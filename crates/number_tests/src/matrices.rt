@@ -2,7 +2,7 @@
 ghost use Rattle.std.specs.Prelude.{◌≡◌, true, length};
 
 use crate::rows::two;
-use cyclo24::{Field, K24, Wide};
+use cyclo24::{Field, K24};
 use iso_text::NoMemory;
 use lin_alg::{LinError, Matrix, Row, are_independent, solve};
 use std::alloc::Global;
@@ -64,26 +64,24 @@ fn have_one_shape(a: &Matrix<K24>, b: &Matrix<K24>) -> bool
     a.rows() == a.cols() && b.rows() == a.rows() && b.cols() == a.rows()
 }
 
-// The trace, whether the square matrix is the unit matrix, and whether it is twice the other one.
-fn compared(a: &Matrix<K24>, b: &Matrix<K24>) -> Result<Option<(K24, bool, bool)>, Wide> {
-    if !have_one_shape(a, b) {
+// The trace, whether the matrix is the unit matrix, and whether it is twice the unit matrix.
+fn compared(alloc: Global, rows: [[i64; 2]; 2]) -> Result<Option<(K24, bool, bool)>, LinError> {
+    let matrix = square(alloc, rows)?;
+    let unit = square(alloc, [[1, 0], [0, 1]])?;
+    if !have_one_shape(&matrix, &unit) {
         return Ok(None);
     }
-    let trace = a.trace()?;
-    let twice = a.is_multiple(K24::ratio(2, 1), b)?;
-    Ok(Some((trace, a.is_unit(), twice)))
+    let trace = matrix.trace()?;
+    let twice = matrix.is_multiple(K24::ratio(2, 1), &unit)?;
+    Ok(Some((trace, matrix.is_unit(), twice)))
 }
 
 #[test]
-fn traces_and_comparisons(rt: HostRuntime) -> Result<(), Fail> {
-    let alloc = rt.alloc();
-    let unit = square(alloc, [[1, 0], [0, 1]])?;
-    let double = square(alloc, [[2, 0], [0, 2]])?;
-    let other = square(alloc, [[2, 0], [1, 2]])?;
-    assert!(rt; compared(&unit, &unit)? == Some((K24::ratio(2, 1), true, false)));
-    assert!(rt; compared(&double, &unit)? == Some((K24::ratio(4, 1), false, true)));
-    assert!(rt; compared(&other, &unit)? == Some((K24::ratio(4, 1), false, false)));
-    Ok(())
+fn traces_and_comparisons(rt: HostRuntime) {
+    let (two, four) = (K24::ratio(2, 1), K24::ratio(4, 1));
+    assert!(rt; compared(rt.alloc(), [[1, 0], [0, 1]]) == Ok(Some((two, true, false))));
+    assert!(rt; compared(rt.alloc(), [[2, 0], [0, 2]]) == Ok(Some((four, false, true))));
+    assert!(rt; compared(rt.alloc(), [[2, 0], [1, 2]]) == Ok(Some((four, false, false))));
 }
 
 // Solves where the rows are independent; `None` where they aren't, too.

@@ -5,14 +5,14 @@ ghost use Rattle.cyclo24.specs.ExactK24.{k24};
 ghost use Rattle.lin_alg.specs.Action.{Action, IsAction, IsFixed};
 ghost use Rattle.number_tests.specs.SignAction.{sign_action, sign_value};
 
-use lin_alg::{Acts, fixed_vectors, images};
 use cyclo24::{Field, K24, Wide};
+use lin_alg::{Acts, law_of_fixed_vectors, law_of_images};
 use std::test::Fail;
 
 #[derive(Drop)]
 struct SignAction {
     minus: bool,
-    ghost lawful: { IsAction k24 (sign_action k24 minus) },
+    ghost lawful: { IsAction k24.laws (sign_action k24 minus) },
 }
 
 fn sign(minus: bool) -> SignAction
@@ -80,9 +80,9 @@ impl Acts<K24> for SignAction {
 
 // What element 1 fixes, each element fixes: a law of all actions, at this one.
 fn fixed_by_the_generator(acts: &SignAction)
-    ensures { (v : ℕ → Value k24) → IsFixed k24 (sign_action k24 acts.now.minus) 1 v → (q : ℕ) → q < 2 → IsFixed k24 (sign_action k24 acts.now.minus) q v }
+    ensures { (v : ℕ → Value k24) → IsFixed k24.laws (sign_action k24 acts.now.minus) 1 v → (q : ℕ) → q < 2 → IsFixed k24.laws (sign_action k24 acts.now.minus) q v }
 {
-    fixed_vectors(acts)
+    law_of_fixed_vectors(acts)
 }
 
 #[test]
@@ -90,8 +90,8 @@ fn a_sign_acts_on_a_line(rt: HostRuntime) -> Result<(), Fail> {
     for (minus, number) in [(true, -1), (false, 1)] {
         let acts = sign(minus);
         fixed_by_the_generator(&acts);
-        fixed_vectors(&acts);
-        images(&acts);
+        law_of_fixed_vectors(&acts);
+        law_of_images(&acts);
         let mut row = [K24::zero()];
         acts.row(1, 0, &mut row)?;
         assert!(rt; row == [K24::ratio(number, 1)]);

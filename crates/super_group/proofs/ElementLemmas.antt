@@ -3,11 +3,11 @@ use Rattle.std.proofs.Common.{◌≡◌, sym, ap, ◌∙◌, subst, ℕ, ◌<◌
 use Rattle.std.proofs.lemmas.Int.{ints}
 use Rattle.space_ops.specs.declared.op.Op.{Op}
 use Rattle.algebra.specs.Whole.{whole}
-use Rattle.space_ops.specs.Matrix.{Vector, vector_sum}
+use Rattle.space_ops.specs.Matrix.{Vector, matrix_times, vector_sum}
 use Rattle.space_ops.specs.Op.{vector_of, shift_of, matrix_of, rows_of, seitz_of, op_of, identity_op, product_of, inverse_of, IsWithin, IsShiftWithin, IsSmallRotation, IsUnimodular}
 use Rattle.space_ops.specs.Seitz.{Seitz, seitz_product, seitz_inverse}
 use Rattle.space_ops.specs.OpLaws.{seitz_of-product_of, seitz_of-inverse_of}
-use Rattle.space_ops.specs.Words.{vector_difference}
+use Rattle.space_ops.specs.Words.{op_at, vector_difference}
 use Rattle.space_ops.specs.LeastShift.{IsTwelfth, IsInCell}
 use Rattle.space_ops.specs.GroupLaws.{place_of}
 use Rattle.super_group.specs.Supercell.{multiplier, IsSameElement, IsBelowEdge, IsInside, reduced}
@@ -100,3 +100,9 @@ composed_is g k left right op e f p = ap seitz_of p ∙ seitz_of-product_of left
 
 pub inverted_is : (g : Seitz ℤ) (element op : Op) → element ≡ op_of g → op ≡ inverse_of element → seitz_of op ≡ seitz_inverse whole g
 inverted_is g element op e p = ap seitz_of p ∙ seitz_of-inverse_of element ∙ ap (λ (o : Op). seitz_inverse whole (seitz_of o)) e
+
+-- the rotation of a product of elements
+pub composed_rotation : (s : SupercellGroup) (a b : ℕ) (left right op : Op) → left ≡ op_of (element_of s a) → right ≡ op_of (element_of s b) → op ≡ product_of left right
+    → matrix_of op.rot ≡ matrix_times whole (op_at s.parent.ops (a / length s.translations)).rot (op_at s.parent.ops (b / length s.translations)).rot
+unfolding element_of
+composed_rotation s a b left right op e f p = ap (λ (g : Seitz ℤ). g.rot) (composed_is (element_of s a) (element_of s b) left right op e f p)

@@ -4,4 +4,5 @@ pub mod MotionLemmas
 pub mod MultiplierLemmas
 pub mod Passed
 pub mod PlaceLemmas
+pub mod TableLemmas
 pub mod TranslationLemmas

@@ -13,6 +13,7 @@ pub mod Quotient
 pub mod QuotientLaws
 pub mod QuotientParts
 pub mod QuotientView
+pub mod RotationTable
 pub mod Supercell
 pub mod SupercellLaws
 pub mod TranslationLaws

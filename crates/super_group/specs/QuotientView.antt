@@ -1,7 +1,8 @@
 -- What contracts see of a quotient's fields.
-use Rattle.std.specs.Prelude.{◌≤◌}
+use Rattle.std.specs.Prelude.{◌≤◌, length}
 use Rattle.super_group.specs.declared.quotient.Quotient.TheInside.{Inside}
 use Rattle.super_group.specs.Quotient.{SupercellGroup, IsQuotient, order_of}
+use Rattle.super_group.specs.RotationTable.{IsProductTable}
 
 abbrev pub view_of : Inside → SupercellGroup
 view_of s = record { parent = s.group; d = s.d; translations = s.translations.items }
@@ -9,3 +10,4 @@ view_of s = record { parent = s.group; d = s.d; translations = s.translations.it
 pub record IsHeld (s : Inside) : Type 0 where
   pub quotient : IsQuotient (view_of s)
   pub few : order_of (view_of s) ≤ 6144
+  pub products : IsProductTable s.group.ops (length s.group.ops) s.products

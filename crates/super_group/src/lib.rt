@@ -11,6 +11,7 @@ mod denominators;
 mod inside;
 mod joined;
 mod laws;
+mod products;
 mod quotient;
 mod translations;
 

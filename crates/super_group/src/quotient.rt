@@ -6,6 +6,7 @@ ghost use Rattle.super_group.specs.Quotient.{place_among, order_in as order_of_p
 ghost use Rattle.super_group.specs.QuotientParts.{IsRisingList, IsAmong, translation_op, motion_ops};
 
 use crate::inside::{rest_inside, sum_inside};
+use crate::products::product_table;
 use crate::translations::translations;
 use arrayvec::ArrayVec;
 use iso_text::NoMemory;
@@ -36,6 +37,7 @@ pub struct Quotient {
     group: Group,
     d: [u32; 3],
     translations: Vec<[i32; 3]>,
+    products: [[u8; 48]; 48],
 }
 
 impl Model for Quotient {
@@ -51,12 +53,12 @@ impl Model for Quotient {
 }
 
 impl Quotient {
-    ghost use Rattle.std.specs.Prelude.{◌≡◌, ℕ, ◌<◌, ◌≤◌, IfOk, Err, length, slice_index_or};
+    ghost use Rattle.std.specs.Prelude.{◌≡◌, ℕ, ◌<◌, ◌≤◌, ◌/◌, IfOk, Err, length, slice_index_or};
     ghost use Rattle.algebra.specs.NumberedGroup.{IsGroup, IsGenerated};
     ghost use Rattle.space_ops.specs.Seitz.{seitz_product, seitz_inverse};
     ghost use Rattle.algebra.specs.Whole.{whole};
     ghost use Rattle.space_ops.specs.Op.{seitz_of, op_of, matrix_of, IsSmallRotation, IsShiftWithin, IsUnimodular};
-    ghost use Rattle.space_ops.specs.GroupLaws.{place_of};
+    ghost use Rattle.space_ops.specs.GroupLaws.{place_of, rotation_group};
     ghost use Rattle.super_group.specs.Supercell.{IsSupercell, IsSameElement};
     ghost use Rattle.super_group.specs.Quotient.{IsQuotient, IsNumbered, IsMember, order_in, order_of, element_of, number_of, quotient_group, generators_of};
 
@@ -79,10 +81,12 @@ impl Quotient {
             Ok(translations) => translations,
             Err(_) => return Err(QuotientError::NoMemory),
         };
+        let products = product_table(&group);
         Ok(Quotient {
             group,
             d,
             translations,
+            products,
         })
     }
 
@@ -102,6 +106,7 @@ impl Quotient {
             group,
             d: self.d,
             translations,
+            products: self.products,
         })
     }
 
@@ -164,10 +169,7 @@ impl Quotient {
         ensures below { result < order_of self.now }
         ensures same { IsSameElement self.now.d (element_of self.now result) (seitz_of op) }
     {
-        let rotation = self.rotation_number(op);
-        let listed = self.group.op(rotation);
-        let rest = rest_inside(op.shift, listed.shift, self.d);
-        rotation * self.translations.len() + place_in(&self.translations, rest)
+        self.number_under(self.rotation_number(op), op)
     }
 
     /// The number of the product of two elements.
@@ -180,7 +182,7 @@ impl Quotient {
     {
         let left = self.element(a);
         let right = self.element(b);
-        self.number(left.compose(right))
+        self.number_under(self.rotation_product(a, b), left.compose(right))
     }
 
     /// The number of the inverse of an element.
@@ -207,6 +209,31 @@ impl Quotient {
             numbers.push(self.number(*motion));
         }
         numbers
+    }
+
+    /// The number of a member whose rotation has this number.
+    fn number_under(&self, rotation: usize, op: Op) -> usize
+        requires member { IsMember self.now (seitz_of op) }
+        requires place { rotation ≡ place_of self.now.parent.ops (matrix_of op.rot) }
+        requires below { rotation < length self.now.parent.ops }
+        ensures number { result ≡ number_of self.now (seitz_of op) }
+        ensures below { result < order_of self.now }
+        ensures same { IsSameElement self.now.d (element_of self.now result) (seitz_of op) }
+    {
+        let listed = self.group.op(rotation);
+        let rest = rest_inside(op.shift, listed.shift, self.d);
+        rotation * self.translations.len() + place_in(&self.translations, rest)
+    }
+
+    /// The number of the product of the rotations of two elements.
+    fn rotation_product(&self, a: usize, b: usize) -> usize
+        requires left { a < order_of self.now }
+        requires right { b < order_of self.now }
+        ensures place { result ≡ (rotation_group self.now.parent.ops).product (a / length self.now.translations) (b / length self.now.translations) }
+        ensures below { result < length self.now.parent.ops }
+    {
+        let count = self.translations.len();
+        usize::from(self.products[a / count][b / count])
     }
 
     fn rotation_number(&self, op: Op) -> usize

@@ -2,7 +2,8 @@
 ghost use Rattle.std.specs.Prelude.{◌≡◌, Some, refl, length, map, fold};
 ghost use Rattle.std.specs.Cmp.{partial_equiv_from_equiv};
 ghost use Rattle.std.proofs.lemmas.Cmp.{on_equiv, on_total};
-ghost use Rattle.lin_alg.specs.Compared.{lines_cmp, lines_eq, lines_fed, lines_total, lines_ties, lines_equiv, lines_po, lines_respects};
+ghost use Rattle.lin_alg.specs.Compared.{lines_cmp, lines_eq, lines_fed};
+ghost use Rattle.lin_alg.specs.CompareLaws.{lines_total, lines_ties, lines_equiv, lines_po, lines_respects};
 
 use super::Echelon;
 use cyclo24::Field;

@@ -2,7 +2,7 @@ use Rattle.std.proofs.Common.{◌≡◌, ◌<◌, ◌*◌, ◌/◌, ◌%◌, ℕ
 use Rattle.lin_alg.specs.Rows.{vector}
 use Rattle.lin_alg.specs.Matrix.{entry, IsWideDot}
 use Rattle.lin_alg.specs.Matrices.{mul}
-use Rattle.lin_alg.proofs.SquareLemmas.{on-err, row_within, column_within}
+use Rattle.lin_alg.proofs.SquareLemmas.{on_err, row_within, column_within}
 use Rattle.lin_alg.proofs.WriteLemmas.{written-set}
 use Rattle.lin_alg.proofs.matrix.fill_product.Goals as goal
 
@@ -30,4 +30,4 @@ returns-in_err-entries-clause-wide g c =
     let l : p < a.rows * b.cols = omega (arith, c.loop-p-test.true, c.requires.size) in
     let w : IsWideDot f a.cols (entry f.laws v a (p / b.cols)) (λ k. entry f.laws v b k (p % b.cols)) =
     subst (λ (m : ℕ). IsWideDot f a.cols (entry f.laws v a (p / m)) (λ k. entry f.laws v b k (p % m))) ec c.in_err-entries.ensures.wide in
-    on-err c.from_residual.result _ (p / b.cols, row_within a.rows b.cols p l, p % b.cols, column_within a.rows b.cols p l, w)
+    on_err c.from_residual.result _ (p / b.cols, row_within a.rows b.cols p l, p % b.cols, column_within a.rows b.cols p l, w)

@@ -2,7 +2,7 @@ use Rattle.std.proofs.Common.{◌≡◌, ℕ, ◌<◌, ◌≤◌, ◌*◌, ◌/�
 use Rattle.cyclo24.specs.ExactField.{Value}
 use Rattle.lin_alg.specs.Matrix.{entry, IsWideMultiple}
 use Rattle.lin_alg.specs.Matrices.{AreEqualBelow, multiple}
-use Rattle.lin_alg.proofs.SquareLemmas.{on-err, row_below, column_below, equal-more, equal-all, equal-at}
+use Rattle.lin_alg.proofs.SquareLemmas.{on_err, row_below, column_below, equal-more, equal-all, equal-at}
 use Rattle.lin_alg.proofs.matrix.Matrix.is_multiple.Goals as goal
 
 pub returns-in_err-wanted-clause-wide : goal.returns-in_err-wanted-clause-wide
@@ -14,7 +14,7 @@ returns-in_err-wanted-clause-wide g c =
     let l : e < n * n = c.loop-e-test.true in
     let w : IsTrue (f.is_wide_product (v c.args.factor) (entry f.laws v c.args.other.now (e / n) (e % n))) =
     subst (λ (y : Value f). IsTrue (f.is_wide_product (v c.args.factor) y)) c.get.ensures (c.in_err-wanted.ensures.wide.0 refl) in
-    on-err c.from_residual.result _ (subst (λ (m : ℕ). IsWideMultiple f m (v c.args.factor) (entry f.laws v c.args.other.now)) c.rows-size.ensures.value (e / n, row_below n e l, e % n, column_below n e l, w))
+    on_err c.from_residual.result _ (subst (λ (m : ℕ). IsWideMultiple f m (v c.args.factor) (entry f.laws v c.args.other.now)) c.rows-size.ensures.value (e / n, row_below n e l, e % n, column_below n e l, w))
 
 pub returns-then-not-are_equal-clause-no : goal.returns-then-not-are_equal-clause-no
 returns-then-not-are_equal-clause-no g c _ h =

@@ -19,4 +19,5 @@ invariant_of-result c =
       few = few_elements (length c.args.group.ops) (length (centrings_of c.args.group.lattice)) (multiplier c.args.d 0 * multiplier c.args.d 1 * multiplier c.args.d 2)
           (length c.in-Ok.translations.items) c.order_in-order.result (translations-count c.args.group.lattice c.args.d c.in-Ok.translations.items c.requires.positive held)
           c.order_in-order.ensures c.if-order-gt-MAX_ORDER.false;
+      products = c.product_table-products.ensures;
     }
