@@ -3,7 +3,6 @@
 -- Says line err: err has grown by the line
 -- Answers job bytes status out err: the answer to a job over all the bytes that were left
 -- AnswersNoJob status out err: the answer where the words name no job
--- IsSafe status out: what holds of out whatever the source tells
 use Rattle.std.specs.Prelude.{◌⊎◌, ℕ, ◌<◌, ◌≤◌, List, [], length, codes}
 use Rattle.iso_report.specs.declared.job.Job.{Job}
 use Rattle.iso_report.specs.declared.refusal.Refusal.{Refusal}
@@ -45,24 +44,20 @@ SaysRefusal r _ err = ⊥
 abbrev pub IsRefused : Job → List ℕ → Change → Type 0
 IsRefused job bytes err = ((max_bytes < length bytes) × Says too_long_line err) ⊎ ((r : Refusal) × (length bytes ≤ max_bytes) × IsOutcome job bytes (refused r) × Says (line_of r) err)
 
--- the answer to a job, by its status, over all the bytes that were left
+-- want of memory: nothing was written, or a prefix of the report of few enough bytes
+abbrev pub IsStopped : Job → List ℕ → Change → Type 0
+IsStopped job bytes out = Grew [] out ⊎ ((length bytes ≤ max_bytes) × IsCutShort job bytes out)
+
+-- the answer to a job, by its status, over all the bytes that were left: where they are too many, it is
+-- the refusal of their length, a read fault or want of memory
 abbrev pub Answers : Job → List ℕ → Status → Change → Change → Type 0
-Answers job bytes status.Done out err = RunIsDone job bytes out × Grew [] err
+Answers job bytes status.Done out err = (length bytes ≤ max_bytes) × RunIsDone job bytes out × Grew [] err
 Answers job bytes status.Refused out err = Grew [] out × IsRefused job bytes err
 Answers job bytes status.Usage out err = ⊥
 Answers job bytes status.ReadFault out err = Grew [] out × Says read_line err
-Answers job bytes status.WriteFault out err = IsBrokenOff job bytes out × Says write_line err
-Answers job bytes status.NoMemory out err = IsCutShort job bytes out × Says memory_line err
+Answers job bytes status.WriteFault out err = (length bytes ≤ max_bytes) × IsBrokenOff job bytes out × Says write_line err
+Answers job bytes status.NoMemory out err = IsStopped job bytes out × Says memory_line err
 
 -- the answer where the words name no job: not built, and nothing on out
 abbrev pub AnswersNoJob : Status → Change → Change → Type 0
 AnswersNoJob status out err = Grew [] out × SaysRefusal refusal.NotBuilt status err
-
--- what out has, and what its faults say, whatever the source tells
-abbrev pub IsSafe : Status → Change → Type 0
-IsSafe status.Done out = Unit {0}
-IsSafe status.Refused out = Grew [] out
-IsSafe status.Usage out = ⊥
-IsSafe status.ReadFault out = Grew [] out
-IsSafe status.WriteFault out = HasFailed out
-IsSafe status.NoMemory out = Unit {0}

@@ -2,7 +2,8 @@
 --
 -- job_of words: the job that the words name, or none
 -- texts_of words: the words as lists of bytes
-use Rattle.std.specs.Prelude.{ℕ, List, [], ◌∷◌, Option, Some, None, codes, if◌then◌else◌, map}
+-- command_words arguments: the words behind the program's name
+use Rattle.std.specs.Prelude.{ℕ, List, [], ◌∷◌, Option, Some, None, String, codes, if◌then◌else◌, drop, map, string_bytes}
 use Rattle.std.specs.Str.{bytes_eq}
 use Rattle.std.specs.Borrow.{Bor}
 use Rattle.iso_report.specs.declared.job.Job.{Job}
@@ -15,3 +16,7 @@ job_of _ = None
 
 abbrev pub texts_of : List (Bor (List ℕ)) → List (List ℕ)
 texts_of = map (λ word. word.now)
+
+-- the words behind the program's name, which is the first argument
+abbrev pub command_words : {A : Type 0} → List (String A) → List (List ℕ)
+command_words arguments = map string_bytes (drop 1 arguments)

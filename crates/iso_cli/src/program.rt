@@ -1,15 +1,30 @@
 // What the program does with its standard streams.
+ghost use Rattle.std.specs.Prelude.{◌≡◌, ◌≢◌, ◌⊎◌, IfOk, IsNone, map, string_bytes};
+ghost use Rattle.iso_cli.specs.Words.{command_words, job_of, texts_of};
+
 use crate::{Status, StdErr, StdOut, StdSource, isodist};
 use std::alloc::{AllocError, Global};
 use std::io::{Read, Write};
 
-// The program's words, without its name.
-fn words_of(alloc: Global, arguments: &[String]) -> Result<Vec<&str>, AllocError> {
+// These arguments as words.
+fn as_words(alloc: Global, arguments: &[String]) -> Result<Vec<&str>, AllocError>
+    ensures { IfOk result (λ words. texts_of words.items ≡ map string_bytes arguments.now) }
+{
     let mut words = Vec::new(alloc);
-    for word in arguments.iter().skip(1) {
-        words.push(word.as_str())?;
+    for argument in arguments {
+        words.push(argument.as_str())?;
     }
     Ok(words)
+}
+
+// The program's words, without its name.
+fn words_of(alloc: Global, arguments: &[String]) -> Result<Vec<&str>, AllocError>
+    ensures { IfOk result (λ words. texts_of words.items ≡ command_words arguments.now) }
+{
+    match arguments {
+        [] => Ok(Vec::new(alloc)),
+        [_, words @ ..] => as_words(alloc, words),
+    }
 }
 
 /// The status of the program over its arguments, the first of which is its name, and the standard
@@ -20,7 +35,11 @@ pub fn main_status<R: Read + Drop, W: Write + Drop, V: Write + Drop>(
     input: R,
     output: W,
     errors: V,
-) -> Status {
+) -> Status
+    // Words that name no job are refused, whatever the streams do.
+    ensures no_job { IsNone (job_of (command_words arguments.now)) → (result ≡ Status.Refused) ⊎ (result ≡ Status.NoMemory) }
+    ensures no_usage { result ≢ Status.Usage }
+{
     let Ok(words) = words_of(alloc, arguments) else {
         return Status::NoMemory;
     };

@@ -1,5 +1,5 @@
 // The standard streams. They tell nothing of their bytes.
-ghost use Rattle.std.specs.Prelude.{None};
+ghost use Rattle.std.specs.Prelude.{◌≡◌, None};
 ghost use Rattle.iso_text.specs.Counts.{last_count};
 
 use iso_text::{Failed, Sink, Source};
@@ -15,7 +15,10 @@ pub struct StdSource<R: Read + Drop> {
 
 impl<R: Read + Drop> StdSource<R> {
     /// Nothing read yet.
-    pub fn new(input: R) -> Self {
+    pub fn new(input: R) -> Self
+        ensures faults { result.faults ≡ 0 }
+        ensures taken { result.taken ≡ 0 }
+    {
         StdSource {
             input,
             faults: 0,
@@ -54,7 +57,9 @@ pub struct StdOut<W: Write + Drop> {
 
 impl<W: Write + Drop> StdOut<W> {
     /// Nothing written yet.
-    pub fn new(output: W) -> Self {
+    pub fn new(output: W) -> Self
+        ensures faults { result.faults ≡ 0 }
+    {
         StdOut { output, faults: 0 }
     }
 }
@@ -83,7 +88,9 @@ pub struct StdErr<W: Write + Drop> {
 
 impl<W: Write + Drop> StdErr<W> {
     /// Nothing written yet.
-    pub fn new(output: W) -> Self {
+    pub fn new(output: W) -> Self
+        ensures faults { result.output.faults ≡ 0 }
+    {
         StdErr {
             output: StdOut::new(output),
         }

@@ -1,5 +1,5 @@
 // How the program ends.
-ghost use Rattle.std.specs.Prelude.{◌≡◌};
+ghost use Rattle.std.specs.Prelude.{◌≡◌, ◌<◌};
 ghost use Rattle.iso_cli.specs.Status.{code_of};
 
 /// How a call of the program ended.
@@ -22,7 +22,8 @@ pub enum Status {
 impl Status {
     /// The exit status of the program, 0 to 5 in the order of the variants.
     pub fn code(self) -> u8
-        ensures { result ≡ code_of self }
+        ensures value { result ≡ code_of self }
+        ensures below { result < 6 }
     {
         match self {
             Status::Done => 0,

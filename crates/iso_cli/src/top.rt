@@ -4,7 +4,7 @@ ghost use Rattle.iso_text.specs.Counts.{HasRisen, raised};
 ghost use Rattle.iso_text.specs.Streams.{IsRestOf};
 ghost use Rattle.iso_report.specs.Endings.{change};
 ghost use Rattle.iso_report.specs.Report.{line_of};
-ghost use Rattle.iso_cli.specs.Answers.{Answers, AnswersNoJob, IsSafe, Says, SaysRefusal};
+ghost use Rattle.iso_cli.specs.Answers.{Answers, AnswersNoJob, Says, SaysRefusal};
 ghost use Rattle.iso_cli.specs.Words.{job_of, texts_of};
 
 use crate::Status;
@@ -31,11 +31,13 @@ fn job(words: &[&str]) -> Option<Job>
     }
 }
 
-// Writes a line on err. A fault there changes no answer.
-fn say<E: Sink>(err: &mut E, line: &[u8])
-    ensures { Says line.now (change (E.written err.old) (E.written err.new) (E.faults err.old) (E.faults err.new)) }
+// Writes a line on err, and gives the status. A fault there changes no status.
+fn say<E: Sink>(err: &mut E, line: &[u8], status: Status) -> Status
+    ensures status { result ≡ status }
+    ensures says { Says line.now (change (E.written err.old) (E.written err.new) (E.faults err.old) (E.faults err.new)) }
 {
     let _ = put_all(err, line);
+    status
 }
 
 // Writes the line of a refusal on err.
@@ -43,14 +45,8 @@ fn refuse<E: Sink>(alloc: Global, refusal: &Refusal, err: &mut E) -> Status
     ensures { SaysRefusal refusal.now result (change (E.written err.old) (E.written err.new) (E.faults err.old) (E.faults err.new)) }
 {
     match refusal_line(alloc, refusal) {
-        Ok(line) => {
-            say(err, line.as_slice());
-            Status::Refused
-        }
-        Err(_) => {
-            say(err, OUT_OF_MEMORY.as_bytes());
-            Status::NoMemory
-        }
+        Ok(line) => say(err, line.as_slice(), Status::Refused),
+        Err(_) => say(err, OUT_OF_MEMORY.as_bytes(), Status::NoMemory),
     }
 }
 
@@ -66,21 +62,17 @@ fn answer<O: Sink, E: Sink>(
     ensures answers { Answers job bytes.now result
         (change (O.written out.old) (O.written out.new) (O.faults out.old) (O.faults out.new))
         (change (E.written err.old) (E.written err.new) (E.faults err.old) (E.faults err.new)) }
-    ensures safe { IsSafe result (change (O.written out.old) (O.written out.new) (O.faults out.old) (O.faults out.new)) }
-    ensures no_fault { result ≢ Status.ReadFault }
     ensures refused { result ≡ Status.Refused → (r : Refusal) × Says (line_of r) (change (E.written err.old) (E.written err.new) (E.faults err.old) (E.faults err.new)) }
+    ensures refused_out { result ≡ Status.Refused → out.new ≡ out.old }
+    ensures write_fault { result ≡ Status.WriteFault → HasRisen (O.faults out.old) (O.faults out.new) }
+    ensures no_read_fault { result ≢ Status.ReadFault }
+    ensures no_usage { result ≢ Status.Usage }
 {
     match run(alloc, &job, bytes, out) {
         Ok(()) => Status::Done,
         Err(RunError::Refused(refusal)) => refuse(alloc, &refusal, err),
-        Err(RunError::WriteFault) => {
-            say(err, WRITE_FAILED.as_bytes());
-            Status::WriteFault
-        }
-        Err(RunError::NoMemory) => {
-            say(err, OUT_OF_MEMORY.as_bytes());
-            Status::NoMemory
-        }
+        Err(RunError::WriteFault) => say(err, WRITE_FAILED.as_bytes(), Status::WriteFault),
+        Err(RunError::NoMemory) => say(err, OUT_OF_MEMORY.as_bytes(), Status::NoMemory),
     }
 }
 
@@ -95,8 +87,11 @@ fn answer_source<S: Source, O: Sink, E: Sink>(
     ensures answers { IfSome (S.left source.old) (λ bytes. Answers job bytes result
         (change (O.written out.old) (O.written out.new) (O.faults out.old) (O.faults out.new))
         (change (E.written err.old) (E.written err.new) (E.faults err.old) (E.faults err.new))) }
-    ensures safe { IsSafe result (change (O.written out.old) (O.written out.new) (O.faults out.old) (O.faults out.new)) }
+    ensures refused_out { result ≡ Status.Refused → out.new ≡ out.old }
+    ensures read_fault_out { result ≡ Status.ReadFault → out.new ≡ out.old }
     ensures read_fault { result ≡ Status.ReadFault → HasRisen (S.faults source.old) (S.faults source.new) }
+    ensures write_fault { result ≡ Status.WriteFault → HasRisen (O.faults out.old) (O.faults out.new) }
+    ensures no_usage { result ≢ Status.Usage }
     ensures drained { result ≡ Status.Done → IfSome (S.left source.old) (λ _. S.left source.new ≡ Some []) }
     ensures refused { result ≡ Status.Refused → IfSome (S.left source.old) (λ bytes. (MAX_BYTES < length bytes) ⊎ (S.left source.new ≡ Some [])) }
     ensures too_long { result ≡ Status.Refused → (S.taken source.new ≡ raised (MAX_BYTES + 1) (S.taken source.old)) ⊎ ((r : Refusal) × Says (line_of r) (change (E.written err.old) (E.written err.new) (E.faults err.old) (E.faults err.new))) }
@@ -105,18 +100,9 @@ fn answer_source<S: Source, O: Sink, E: Sink>(
 {
     match take_all(alloc, source) {
         Ok(bytes) => answer(alloc, job, &bytes, out, err),
-        Err(TakeError::ReadFault) => {
-            say(err, READ_FAILED.as_bytes());
-            Status::ReadFault
-        }
-        Err(TakeError::TooLong) => {
-            say(err, TOO_LONG.as_bytes());
-            Status::Refused
-        }
-        Err(TakeError::NoMemory) => {
-            say(err, OUT_OF_MEMORY.as_bytes());
-            Status::NoMemory
-        }
+        Err(TakeError::ReadFault) => say(err, READ_FAILED.as_bytes(), Status::ReadFault),
+        Err(TakeError::TooLong) => say(err, TOO_LONG.as_bytes(), Status::Refused),
+        Err(TakeError::NoMemory) => say(err, OUT_OF_MEMORY.as_bytes(), Status::NoMemory),
     }
 }
 
@@ -136,15 +122,21 @@ pub fn isodist<'a, S: Source, O: Sink, E: Sink>(
         (change (O.written out.old) (O.written out.new) (O.faults out.old) (O.faults out.new))
         (change (E.written err.old) (E.written err.new) (E.faults err.old) (E.faults err.new)) }
     ensures unread { IsNone (job_of (texts_of words.now)) → source.new ≡ source.old }
+    ensures unwritten { IsNone (job_of (texts_of words.now)) → out.new ≡ out.old }
 
     // A job is answered as the definitions say of all the bytes that were left.
     ensures job { IfSome (job_of (texts_of words.now)) (λ job. IfSome (S.left source.old) (λ bytes. Answers job bytes result
         (change (O.written out.old) (O.written out.new) (O.faults out.old) (O.faults out.new))
         (change (E.written err.old) (E.written err.new) (E.faults err.old) (E.faults err.new)))) }
 
-    // Over every source.
-    ensures safe { IsSafe result (change (O.written out.old) (O.written out.new) (O.faults out.old) (O.faults out.new)) }
+    // Over all streams: out is as it was after a refusal and a read fault, and each fault has its count.
+    ensures refused_out { result ≡ Status.Refused → out.new ≡ out.old }
+    ensures read_fault_out { result ≡ Status.ReadFault → out.new ≡ out.old }
     ensures read_fault { result ≡ Status.ReadFault → HasRisen (S.faults source.old) (S.faults source.new) }
+    ensures write_fault { result ≡ Status.WriteFault → HasRisen (O.faults out.old) (O.faults out.new) }
+    ensures no_usage { result ≢ Status.Usage }
+
+    // What was read: all that was left, but of a file that is too long.
     ensures drained { result ≡ Status.Done → IfSome (S.left source.old) (λ _. S.left source.new ≡ Some []) }
     ensures refused { result ≡ Status.Refused → IfSome (job_of (texts_of words.now)) (λ _. IfSome (S.left source.old) (λ bytes. (MAX_BYTES < length bytes) ⊎ (S.left source.new ≡ Some []))) }
     ensures too_long { result ≡ Status.Refused → (S.taken source.new ≡ raised (MAX_BYTES + 1) (S.taken source.old)) ⊎ ((r : Refusal) × Says (line_of r) (change (E.written err.old) (E.written err.new) (E.faults err.old) (E.faults err.new))) }

@@ -1,5 +1,5 @@
 // A job over a file's bytes.
-ghost use Rattle.std.specs.Prelude.{◌≡◌, ◌≤◌, length, IfOk, MatchResult};
+ghost use Rattle.std.specs.Prelude.{◌≡◌, ◌≤◌, length, IfOk, IsErrOf, MatchResult};
 ghost use Rattle.iso_report.specs.Endings.{RunIsDone, RunFails, change};
 ghost use Rattle.iso_report.specs.Found.{finding_of};
 ghost use Rattle.iso_report.specs.Outcome.{IsFoundIn, IsOutcome};
@@ -52,13 +52,14 @@ fn find(alloc: Global, job: &Job, bytes: &[u8]) -> Result<Step<Found>, NoMemory>
 /// Writes the report of a job over a file's bytes on out, or says why not. At most `MAX_BYTES`
 /// bytes.
 ///
-/// After a refusal nothing was written. After a failed write out has a prefix of the report, and
+/// After a refusal out is as it was. After a failed write out has a prefix of the report, and
 /// counted a fault; after want of memory nothing or a prefix of the report.
 pub fn run<O: Sink>(alloc: Global, job: &Job, bytes: &[u8], out: &mut O) -> Result<(), RunError>
     requires { length bytes.now ≤ MAX_BYTES }
     ensures answer { MatchResult result
         (λ _. RunIsDone job.now bytes.now (change (O.written out.old) (O.written out.new) (O.faults out.old) (O.faults out.new)))
         (λ e. RunFails job.now bytes.now (change (O.written out.old) (O.written out.new) (O.faults out.old) (O.faults out.new)) e) }
+    ensures untouched { (r : Refusal) → IsErrOf result (RunError.Refused r) → out.new ≡ out.old }
     ensures faults { O.faults out.old ≤ O.faults out.new }
 {
     let found = match find(alloc, job, bytes) {
