@@ -9,7 +9,7 @@ use crate::found::{Found, report_text};
 use crate::job::Job;
 use crate::parent::parent_of;
 use crate::reading::{built_file, read_file};
-use crate::refusal::RunError;
+use crate::refusal::{Refusal, RunError};
 use crate::sign_outcome::first_listing;
 use crate::step::Step;
 use iso_text::{MAX_BYTES, NoMemory, Sink, put_all};
