@@ -14,7 +14,7 @@ use Rattle.std.proofs.Math.Logic.{∥∥₁_elim}
 use mathlib.Core.Bool.{Bool-set}
 use Rattle.algebra.specs.NumberedGroup.{Group, IsGroup, word, AllBelow, HasWord, IsGenerated}
 use Rattle.algebra.specs.NumberedGroupLaws.{product-inverse, product-identity, cancel}
-use Rattle.algebra.specs.Pigeonhole.{pigeonhole}
+use Rattle.algebra.specs.PigeonholeLaws.{pigeonhole}
 
 -- the product of k factors a
 abbrev pub power : Group → ℕ → ℕ → ℕ

@@ -1,3 +1,6 @@
+-- The modules in reading order: what each states stands above its line.
+
+-- the operations of a ring
 pub mod Ring
 pub mod Whole
 pub mod WholeLaws
@@ -9,7 +12,7 @@ pub mod DivisorLaws
 pub mod ListLaws
 pub mod RisingLists
 pub mod RisingListLaws
-pub mod Pigeonhole
+pub mod PigeonholeLaws
 pub mod NumberedGroup
 pub mod NumberedGroupLaws
 pub mod Subgroup

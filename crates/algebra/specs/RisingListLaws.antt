@@ -1,6 +1,6 @@
 -- Laws of rising lists of numbers.
 --
--- list-none, list-skip, list-more, list-grows: the list of the numbers below the next number
+-- list-skip, list-more, list-grows: the list of the numbers below the next number
 -- list-same: numbers with the same property have the same lists
 -- list-injective: each number stands once
 -- listed-below, listed-has, has-listed: what the list contains
@@ -11,14 +11,6 @@ use Rattle.std.proofs.lemmas.List.{get_or_append_left, get_or_default}
 use Rattle.std.proofs.Math.Seq.{get_or-append_seam}
 use Rattle.algebra.specs.RisingLists.{IsRisingListOf}
 use Rattle.algebra.specs.ListLaws.{length-more, lists-equal}
-
-pub list-none : (P : ℕ → Type 0) → IsRisingListOf 0 P []
-list-none P = record {
-  below = λ i l. absurd (omega arith);
-  has = λ i l. absurd (omega arith);
-  rising = λ i j l m. absurd (omega arith);
-  every = λ r l p. absurd (omega arith);
-}
 
 pub list-skip : (n : ℕ) (P : ℕ → Type 0) (xs : List ℕ) → IsRisingListOf n P xs → (P n → ⊥) → IsRisingListOf (n + 1) P xs
 list-skip n P xs h other = record {

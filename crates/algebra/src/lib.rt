@@ -11,7 +11,7 @@ ghost use Rattle.std.specs.Prelude.{◌≡◌, ℕ, ◌<◌, ◌*◌, ◌↔◌,
 ghost use Rattle.std.specs.Int.{int_rem_euclid, IsGcd};
 ghost use Rattle.algebra.specs.Multiples.{IsMultiple, IsRemainder, AreMultiplesIdeal};
 ghost use Rattle.algebra.specs.NumberedGroup.{Group, IsGroup, IsGenerated, HasRightLaws, HoldsOfGenerated};
-ghost use Rattle.algebra.specs.Pigeonhole.{IsPigeonholed};
+ghost use Rattle.algebra.specs.PigeonholeLaws.{IsPigeonholed};
 ghost use Rattle.algebra.specs.Ring.{Ops, IsRing};
 ghost use Rattle.algebra.specs.RisingLists.{IsRisingListOfTest};
 ghost use Rattle.algebra.specs.Solve.{HasNormalForms};

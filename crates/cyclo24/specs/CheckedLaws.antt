@@ -5,7 +5,7 @@
 -- quotient_below: a quotient is no larger
 -- answer_ok, answer_err: what an answer says of the written numbers
 use Rattle.std.proofs.Common.{◌≡◌, ℕ, ◌^◌, ◌<◌, ◌≤◌, Bool, true, false, arith, ℤ, refl, le_trans, lit≤, List, [], ◌∷◌, ◌++◌, ap, ◌∙◌, sym, Result, Ok, Err, cond}
-use Rattle.std.specs.Prelude.{FitsSigned, ◌||◌, pos, negsuc, ◌-ℤ◌, ◌+ℤ◌, ◌*ℤ◌, neg_ℤ, suc, ◌/◌}
+use Rattle.std.specs.Prelude.{FitsSigned, ◌||◌, pos, negsuc, ◌-ℤ◌, ◌+ℤ◌, neg_ℤ, suc, ◌/◌}
 use Rattle.std.proofs.lemmas.Int.{ints, to_z-of_z, to_z_pos}
 use Rattle.std.proofs.Common.{to_z, of_z}
 use Rattle.cyclo24.specs.Gcd.{gcd, quotient}
@@ -168,16 +168,6 @@ sum_from_narrow s (p ∷ ps) h e =
 -- a sum that is answered is narrow
 pub sum_of_narrow : (ps : List Product) → any_wide (sum_of ps).written ≡ false → is_wide (sum_of ps).value.n ≡ false
 sum_of_narrow ps e = sum_from_narrow (record { n = pos 0 }) ps (below_wide (pos 0) (lit≤ tt)) e
-
--- the sum as a whole number
-abbrev pub total_from : ℤ → List Product → ℤ
-total_from s [] = s
-total_from s (p ∷ ps) = total_from (s +ℤ p.factor.n *ℤ (p.x.n *ℤ p.y.n)) ps
-
-pub sum_from_value : (s : Whole) (ps : List Product) → (sum_from s ps).value.n ≡ total_from s.n ps
-unfolding sum_from then term
-sum_from_value s [] = refl
-sum_from_value s (p ∷ ps) = sum_from_value (record { n = s.n +ℤ p.factor.n *ℤ (p.x.n *ℤ p.y.n) }) ps
 
 -- one product after the others
 pub sum_step : (s v r : Whole) (p : Product) (ps : List Product) → answer (term p) ≡ Ok v → answer (plus s v) ≡ Ok r → answer (sum_from s (p ∷ ps)) ≡ answer (sum_from r ps)

@@ -14,28 +14,34 @@ use Rattle.cyclo24.specs.Numerators.{Numerators, IsNumerators}
 use Rattle.cyclo24.specs.CommonLaws.{over_one, lowest-one}
 use Rattle.cyclo24.specs.Listed.{numerators, denominator, is_exact}
 use Rattle.cyclo24.specs.ListedLaws.{exact_laws, exact_is, same_exact, join-last, length-front}
-use Rattle.cyclo24.specs.ExactMaps.{exact_member, exact_member-is, exact_member-low, exact_member-plus, exact_member-times, exact_map-member}
+use Rattle.cyclo24.specs.ExactMapsLaws.{exact_member, exact_member-is, exact_member-low, exact_member-plus, exact_member-times, exact_map-member}
 use Rattle.algebra.specs.Whole.{whole}
 use Rattle.algebra.specs.WholeLaws.{whole_ring}
 use Rattle.cyclo24.specs.Four.{Four, add4, mul4, num4}
 use Rattle.cyclo24.specs.FourLaws.{scaled, same4}
-use Rattle.cyclo24.specs.FourNorm.{whole4, four, four_is}
-use Rattle.cyclo24.specs.Eight.{Eight, add8, mul8, num8, conj8, z8}
+use Rattle.cyclo24.specs.FourNorm.{whole4, four}
+use Rattle.cyclo24.specs.FourNormLaws.{four_is}
+use Rattle.cyclo24.specs.Eight.{Eight, add8, mul8, num8}
+use Rattle.cyclo24.specs.EightParts.{conj8, z8}
 use Rattle.cyclo24.specs.EightLaws.{scaled8, same8}
-use Rattle.cyclo24.specs.EightNorm.{whole8, eight, eight_is, above0}
+use Rattle.cyclo24.specs.EightNorm.{whole8, eight}
+use Rattle.cyclo24.specs.EightNormLaws.{eight_is, above0}
 use Rattle.cyclo24.specs.Numerals.{of_whole}
 use Rattle.cyclo24.specs.Sums.{total}
 use Rattle.cyclo24.specs.ExactK24.{Exact24, k24_laws}
 use Rattle.cyclo24.specs.ExactZ24.{ExactZ24, z24_laws, root_of_unity, power, conj}
 use Rattle.cyclo24.specs.RootsK24.{r2, r3, r6}
-use Rattle.cyclo24.specs.Written4.{fraction_of, numbers4, sum, product, inverse, negated, upright}
+use Rattle.cyclo24.specs.Written4.{fraction_of, numbers4, sum, product, negated}
+use Rattle.cyclo24.specs.Written4Inverse.{inverse, upright}
 use Rattle.cyclo24.specs.Written8 as Eights
 use Rattle.cyclo24.specs.Written8.{fraction8_of, numbers8}
 use Rattle.cyclo24.specs.K24Laws.{IsLow, exact_of, made_low, made_value, product24, sum24, inverse24, neg_parts}
-use Rattle.cyclo24.specs.K24Numbers.{whole_list}
-use Rattle.cyclo24.specs.SmallNumbers.{whole_list8}
-use Rattle.cyclo24.specs.Z24Calls.{IsLow8, exact_of8, made_low8, made_value8, product_z24, sum_z24, negated_z24}
-use Rattle.cyclo24.specs.Z24Roots.{member, power8, power_is, power-plus, power-mod, four2, four3, four6, r2_member, r3_member, r6_member}
+use Rattle.cyclo24.specs.K24NumbersLaws.{whole_list}
+use Rattle.cyclo24.specs.SmallNumbersLaws.{whole_list8}
+use Rattle.cyclo24.specs.Z24Calls.{IsLow8, exact_of8}
+use Rattle.cyclo24.specs.Z24CallsLaws.{made_low8, made_value8, product_z24, sum_z24, negated_z24}
+use Rattle.cyclo24.specs.Z24Roots.{member, power8, four2, four3, four6}
+use Rattle.cyclo24.specs.Z24RootsLaws.{power_is, power-plus, power-mod, r2_member, r3_member, r6_member}
 use Rattle.cyclo24.specs.Z24Laws.{conj-times, conj-unit, conj_linear}
 use Rattle.cyclo24.specs.Coefficients.{in_roots, in_powers, numerator24, reduced4, reduced8}
 

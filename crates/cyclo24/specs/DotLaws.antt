@@ -11,7 +11,8 @@ use Rattle.cyclo24.specs.declared.whole.Whole.{Whole}
 use Rattle.cyclo24.specs.Checked.{any_wide, times, plus, then}
 use Rattle.cyclo24.specs.SmallLaws.{sum_most, times_most, factor_most}
 use Rattle.cyclo24.specs.ShortLaws.{then_all, written_all}
-use Rattle.cyclo24.specs.Written8.{dot_from, dot, num, less_two, and_one}
+use Rattle.cyclo24.specs.Written8.{dot_from, dot, num}
+use Rattle.cyclo24.specs.Written8Products.{less_two, and_one}
 
 -- each is at most 2^28
 abbrev pub AllShort : List Whole → Type 0

@@ -7,7 +7,8 @@
 use Rattle.std.proofs.Common.{◌≡◌, ℕ, ◌+◌, suc, refl, sym, [], ◌∷◌, true, false, Bool}
 use Rattle.algebra.specs.Ring.{Ops, IsRing}
 use Rattle.cyclo24.specs.Four.{Four, mul4, add4, neg4, num4}
-use Rattle.cyclo24.specs.Eight.{Eight, mul8, add8, neg8, num8, eight_ops, conj8, re8, im8, real8, i8}
+use Rattle.cyclo24.specs.Eight.{Eight, mul8, add8, neg8, num8, eight_ops}
+use Rattle.cyclo24.specs.EightParts.{conj8, re8, im8, real8, i8}
 use Rattle.algebra.specs.Solve.{Exp, V, K, Mul, exps, same, value, and_then, at}
 use Rattle.algebra.specs.SolveLaws.{solve}
 use Rattle.cyclo24.specs.FourLaws.{vars, values, same4}

@@ -8,9 +8,11 @@ use Rattle.cyclo24.specs.FieldOn.{FieldOn}
 use Rattle.cyclo24.specs.ExactField.{Exact, ExactField}
 use Rattle.cyclo24.specs.Listed.{is_exact, exact_cmp}
 use Rattle.cyclo24.specs.ListedLaws.{exact_laws, exact_ones, exact_cmp_total, exact_cmp-Equal}
-use Rattle.cyclo24.specs.FourNorm.{whole4, four, four_is}
+use Rattle.cyclo24.specs.FourNorm.{whole4, four}
+use Rattle.cyclo24.specs.FourNormLaws.{four_is}
 use Rattle.cyclo24.specs.Checked.{any_wide}
-use Rattle.cyclo24.specs.Written4.{fraction_of, sum, product, inverse}
+use Rattle.cyclo24.specs.Written4.{fraction_of, sum, product}
+use Rattle.cyclo24.specs.Written4Inverse.{inverse}
 
 abbrev pub Exact24 : Type 0
 Exact24 = Exact (is_exact 4)

@@ -12,14 +12,18 @@ use Rattle.cyclo24.specs.ExactField.{Exact, ExactField}
 use Rattle.algebra.specs.Whole.{whole}
 use Rattle.cyclo24.specs.Listed.{is_exact, exact_cmp}
 use Rattle.cyclo24.specs.ListedLaws.{exact_laws, exact_ones, exact_cmp_total, exact_cmp-Equal}
-use Rattle.cyclo24.specs.ExactMaps.{exact_map, exact_member}
-use Rattle.cyclo24.specs.FourNorm.{whole4, four, four_is}
-use Rattle.cyclo24.specs.Eight.{conj8, re8, im8, real8, z8, i8}
-use Rattle.cyclo24.specs.EightNorm.{whole8, eight, eight_is, above0, above3}
+use Rattle.cyclo24.specs.ExactMapsLaws.{exact_map, exact_member}
+use Rattle.cyclo24.specs.FourNorm.{whole4, four}
+use Rattle.cyclo24.specs.FourNormLaws.{four_is}
+use Rattle.cyclo24.specs.EightParts.{conj8, re8, im8, real8, z8, i8}
+use Rattle.cyclo24.specs.EightNorm.{whole8, eight}
+use Rattle.cyclo24.specs.EightNormLaws.{eight_is, above0, above3}
 use Rattle.cyclo24.specs.Checked.{any_wide}
 use Rattle.cyclo24.specs.ExactK24.{Exact24, k24_laws, is_wide_inverse24}
 use Rattle.cyclo24.specs.Written4.{fraction_of}
-use Rattle.cyclo24.specs.Written8.{fraction8_of, sum, product, negated, conjugate, real, imaginary as imaginary_of, from_four}
+use Rattle.cyclo24.specs.Written8.{fraction8_of, sum, negated, imaginary as imaginary_of}
+use Rattle.cyclo24.specs.Written8Products.{product}
+use Rattle.cyclo24.specs.Written8Parts.{conjugate, real, from_four}
 
 abbrev pub ExactZ24 : Type 0
 ExactZ24 = Exact (is_exact 8)

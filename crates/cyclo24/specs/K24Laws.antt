@@ -15,14 +15,16 @@ use Rattle.algebra.specs.WholeLaws.{whole_ring}
 use Rattle.algebra.specs.SolveLaws.{mul_neg}
 use Rattle.cyclo24.specs.Four.{Four, mul4, norm4, adj4, num4}
 use Rattle.cyclo24.specs.FourLaws.{scaled}
-use Rattle.cyclo24.specs.FourNorm.{whole4, four, four_is, list4, by_sign, norm_zero}
+use Rattle.cyclo24.specs.FourNorm.{whole4, four, list4, by_sign}
+use Rattle.cyclo24.specs.FourNormLaws.{four_is, norm_zero}
 use Rattle.cyclo24.specs.Listed.{is_exact, is_positive}
 use Rattle.cyclo24.specs.ListedLaws.{exact_is, positive_abs, same_exact, is_nought-is}
 use Rattle.cyclo24.specs.ExactLaws.{plus-is, neg-is, neg-list, times-is, inverse-is, nought-is, unit-is}
 use Rattle.cyclo24.specs.Checked.{is_wide}
 use Rattle.cyclo24.specs.CheckedLaws.{neg_narrow, below_wide}
-use Rattle.cyclo24.specs.Written4.{numbers4, numerators4, four_of, IsNarrow4, sum, product, inverse, negated, upright, minus}
-use Rattle.cyclo24.specs.Written4Values.{product_value, sum_value, inverse_value, times4}
+use Rattle.cyclo24.specs.Written4.{numbers4, numerators4, four_of, IsNarrow4, sum, product, negated, minus}
+use Rattle.cyclo24.specs.Written4Inverse.{inverse, upright}
+use Rattle.cyclo24.specs.Written4ValuesLaws.{product_value, sum_value, inverse_value, times4}
 use Rattle.cyclo24.specs.ExactK24.{Exact24, k24_laws}
 
 -- in lowest terms over a denominator above 0

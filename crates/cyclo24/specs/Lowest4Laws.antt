@@ -30,9 +30,10 @@ use Rattle.cyclo24.specs.Checked.{Checked, answer, any_wide, then, give, times, 
 use Rattle.cyclo24.specs.CheckedLaws.{answer_ok, neg_narrow, quotient_below}
 use Rattle.cyclo24.specs.Short.{IsShortProduct, none, more}
 use Rattle.cyclo24.specs.ShortLaws.{then_all, times_narrow, written_all, short_narrow, short_most}
-use Rattle.cyclo24.specs.Written4.{numbers4, numerators4, four_of, IsNarrow4, fraction, product0, product1, product2, product3, product, joined, sum_over, sum, norm_u, norm_v, norm, multiple, inverse_over, inverse, upright, minus}
+use Rattle.cyclo24.specs.Written4.{numbers4, numerators4, four_of, IsNarrow4, fraction, product0, product1, product2, product3, product, joined, sum_over, sum, minus}
+use Rattle.cyclo24.specs.Written4Inverse.{norm_u, norm_v, norm, multiple, inverse_over, inverse, upright}
 use Rattle.cyclo24.specs.Written4Laws.{quotient_positive}
-use Rattle.cyclo24.specs.Written4Values.{u_value, v_value, product_value, sum_value, inverse_value, product_narrow, sum_narrow, inverse_narrow}
+use Rattle.cyclo24.specs.Written4ValuesLaws.{u_value, v_value, product_value, sum_value, inverse_value, product_narrow, sum_narrow, inverse_narrow}
 use Rattle.cyclo24.specs.Short4.{short_of, wide_of, four_of as shorts, numerators, IsWithin4, IsRational4, rational}
 use Rattle.cyclo24.specs.Lowest4.{IsAnswered4}
 

@@ -22,8 +22,9 @@ use Rattle.cyclo24.specs.Checked.{Checked, answer, any_wide, then}
 use Rattle.cyclo24.specs.CheckedLaws.{answer_ok, quotient_below}
 use Rattle.cyclo24.specs.ShortLaws.{then_all, times_narrow}
 use Rattle.cyclo24.specs.DotLaws.{short_dot_all, short_dot_most, less_two_all, and_one_all}
-use Rattle.cyclo24.specs.Written8.{numbers8, numerators8, eight_of, IsNarrow8, num, dot, fraction8, high_sums, low, product, joined, sum_over, sum}
-use Rattle.cyclo24.specs.Written8Values.{product_value, sum_value, product_narrow, sum_narrow}
+use Rattle.cyclo24.specs.Written8.{numbers8, numerators8, eight_of, IsNarrow8, num, dot, fraction8, joined, sum_over, sum}
+use Rattle.cyclo24.specs.Written8Products.{high_sums, low, product}
+use Rattle.cyclo24.specs.Written8ValuesLaws.{product_value, sum_value, product_narrow, sum_narrow}
 use Rattle.cyclo24.specs.Lowest4Laws.{product_positive, low_sum_positive, times_zero}
 use Rattle.cyclo24.specs.Short8.{short_of, numerators, IsWithin8, IsRational8, rational}
 use Rattle.cyclo24.specs.Lowest8.{IsAnswered8}

@@ -1,7 +1,7 @@
 -- Products and sums of numbers that 64 bits hold.
 --
 -- times_most, factor_most, sum_most: how large they are
--- times_fits, factor_fits, sum_fits: 64 bits hold them
+-- times_fits, factor_fits: 64 bits hold them
 -- product_kept: a product that 64 bits hold, as the program forms it
 -- short_between, tiny_between: a bound by two comparisons
 -- shortened_fits, shortened_is: a number of 128 bits in 64
@@ -43,9 +43,6 @@ times_fits x y h k = below_fits (x *ℤ y) (omega (arith, times_most x y h k))
 
 pub factor_fits : (b : ℕ) (f z : ℤ) → unsigned_abs f ≤ b → b * unsigned_abs z < 2 ^ 63 → FitsSigned w64 (f *ℤ z)
 factor_fits b f z e h = below_fits (f *ℤ z) (omega (arith, factor_most b f z e, h))
-
-pub sum_fits : (x y : ℤ) → unsigned_abs x ≤ 2 ^ 61 → unsigned_abs y ≤ 2 ^ 61 → FitsSigned w64 (x +ℤ y)
-sum_fits x y h k = below_fits (x +ℤ y) (omega (arith, sum_most x y, h, k))
 
 -- a number as 64 bits hold it
 abbrev in64 : ℤ → ℤ

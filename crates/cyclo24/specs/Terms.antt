@@ -10,7 +10,8 @@ use Rattle.iso_text.specs.declared.numbers.Unit.TheVariants.{One, Z, I, R2, R3, 
 use Rattle.cyclo24.specs.declared.fraction8.Fraction8.{Fraction8}
 use Rattle.algebra.specs.Whole.{whole}
 use Rattle.cyclo24.specs.Numerals.{of_whole}
-use Rattle.cyclo24.specs.Eight.{Eight, add8, num8, real8}
+use Rattle.cyclo24.specs.Eight.{Eight, add8, num8}
+use Rattle.cyclo24.specs.EightParts.{real8}
 use Rattle.cyclo24.specs.ExactZ24.{ExactZ24, z24_laws, power, imaginary, from_real}
 use Rattle.cyclo24.specs.RootsK24.{r2, r3, r6}
 use Rattle.cyclo24.specs.Z24Roots.{power8, four2, four3, four6}

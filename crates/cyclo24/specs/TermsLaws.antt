@@ -15,8 +15,10 @@ use Rattle.iso_text.specs.declared.numbers.Unit.{Unit as TermUnit}
 use Rattle.iso_text.specs.declared.numbers.Unit.TheVariants.{R2, R3, R6}
 use Rattle.cyclo24.specs.declared.whole.Whole.{Whole}
 use Rattle.cyclo24.specs.declared.fraction8.Fraction8.{Fraction8}
-use Rattle.cyclo24.specs.Eight.{Eight, real8, add8, num8}
-use Rattle.cyclo24.specs.EightNorm.{list8, whole8_ring}
+use Rattle.cyclo24.specs.Eight.{Eight, add8, num8}
+use Rattle.cyclo24.specs.EightParts.{real8}
+use Rattle.cyclo24.specs.EightNorm.{list8}
+use Rattle.cyclo24.specs.EightNormLaws.{whole8_ring}
 use Rattle.algebra.specs.Whole.{whole}
 use Rattle.iso_text.specs.WordRanges.{IsTerm}
 use Rattle.cyclo24.specs.Terms.{unit8, factor_of, term8, terms8, row8, scale8, AreAtMost}

@@ -1,12 +1,12 @@
 -- What the formulas on four numerators over a denominator give.
-use Rattle.std.proofs.Common.{◌≡◌, ◌<◌, ◌*◌, ◌/◌, ℕ, zero, suc, sym, ap, ◌∙◌, subst, arith, rules, ℤ, pos, negsuc, [], ◌∷◌, get_or, true}
+use Rattle.std.proofs.Common.{◌≡◌, ◌<◌, ◌*◌, ◌/◌, ℕ, zero, suc, sym, ap, ◌∙◌, subst, arith, rules, ℤ, pos, negsuc, [], ◌∷◌, true}
 use Rattle.std.specs.Int.RustNames.{unsigned_abs}
 use Prim.Native.Nat.{◌∣◌}
 use Rattle.std.proofs.Math.Nat.{mul-div_cancel'}
 use Rattle.cyclo24.specs.declared.whole.Whole.{Whole}
 use Rattle.cyclo24.specs.declared.fraction4.Fraction4.{Fraction4}
 use Rattle.cyclo24.specs.Gcd.{gcd, common, quotient, lowest_terms}
-use Rattle.cyclo24.specs.CommonLaws.{common-divides, over_one, lowest-one}
+use Rattle.cyclo24.specs.CommonLaws.{over_one, lowest-one}
 use Rattle.std.specs.Ordering.{int_eq}
 use Rattle.std.specs.Cmp.{signed_Decides}
 use Rattle.cyclo24.specs.Listed.{is_positive}
@@ -60,12 +60,6 @@ reduced_narrow r s g h e d a0 a1 a2 a3 =
     let n : unsigned_abs g.n ≡ common (numerators4 r) (unsigned_abs r.d.n) = ap (λ (w : Whole). unsigned_abs w.n) e in
     let parts : s ≡ over r (unsigned_abs g.n) = λ i. record { d = d i; a0 = a0 i; a1 = a1 i; a2 = a2 i; a3 = a3 i } in
     subst IsNarrow4 (sym (parts ∙ ap (over r) n)) (over_narrow r h)
-
--- and over a denominator above 0
-pub reduced_positive : (r s : Fraction4) → is_positive r.d.n ≡ true → numbers4 s ≡ lowest_terms (numerators4 r) (unsigned_abs r.d.n) → is_positive s.d.n ≡ true
-reduced_positive r s h e =
-    let d : s.d.n ≡ pos (unsigned_abs r.d.n / common (numerators4 r) (unsigned_abs r.d.n)) = ap (λ xs. get_or xs 4 (pos 0)) e in
-    ap is_positive d ∙ quotient_positive (pos (unsigned_abs r.d.n)) (common (numerators4 r) (unsigned_abs r.d.n)) (positive_pos (unsigned_abs r.d.n) (positive_abs r.d.n h).0) (common-divides (numerators4 r) (unsigned_abs r.d.n))
 
 -- over 1 nothing is divided
 pub reduced_over_one : (r : Fraction4) → int_eq r.d.n (pos 1) ≡ true → numbers4 r ≡ lowest_terms (numerators4 r) (unsigned_abs r.d.n)

@@ -5,17 +5,14 @@
 -- IsNarrow8 r: no number is wide
 -- fraction8 c0 .. c7 d: eight numerators, then a denominator
 -- dot xs ys: the sum of the products of two lists, place by place
--- product, sum, conjugate, real, imaginary, from_four: the formulas, before lowest terms
+-- product, sum: the formulas, before lowest terms
 -- negated: with all signs changed
-use Rattle.std.specs.Prelude.{◌≡◌, ℕ, ℤ, pos, negsuc, neg_ℤ, List, [], ◌∷◌, get_or, false}
+use Rattle.std.specs.Prelude.{◌≡◌, ℕ, ℤ, pos, neg_ℤ, List, [], ◌∷◌, get_or, false}
 use Rattle.std.specs.Int.RustNames.{unsigned_abs}
 use Rattle.cyclo24.specs.declared.whole.Whole.{Whole}
-use Rattle.cyclo24.specs.declared.fraction4.Fraction4.{Fraction4}
 use Rattle.cyclo24.specs.declared.fraction8.Fraction8.{Fraction8}
-use Rattle.cyclo24.specs.declared.fraction8.High.{High}
 use Rattle.cyclo24.specs.Gcd.{gcd, quotient}
 use Rattle.cyclo24.specs.Eight.{Eight}
-use Rattle.cyclo24.specs.Written4.{fraction}
 use Rattle.cyclo24.specs.Checked.{Checked, is_wide, then, give, times, plus}
 
 abbrev pub numerators8 : Fraction8 → List ℤ
@@ -71,49 +68,11 @@ dot_from s (x ∷ xs) (y ∷ ys) = then (times x y) (λ p. then (plus s p) (λ r
 abbrev pub dot : List Whole → List Whole → Checked Whole
 dot xs ys = dot_from (num (pos 0)) xs ys
 
--- the sums of the products a_i b_j with i + j = m for m from 8 to 14, i rising
-unfoldable pub high_sums : Fraction8 → Fraction8 → Checked High
-high_sums a b =
-    then (dot (a.c1 ∷ a.c2 ∷ a.c3 ∷ a.c4 ∷ a.c5 ∷ a.c6 ∷ a.c7 ∷ []) (b.c7 ∷ b.c6 ∷ b.c5 ∷ b.c4 ∷ b.c3 ∷ b.c2 ∷ b.c1 ∷ [])) (λ s8.
-    then (dot (a.c2 ∷ a.c3 ∷ a.c4 ∷ a.c5 ∷ a.c6 ∷ a.c7 ∷ []) (b.c7 ∷ b.c6 ∷ b.c5 ∷ b.c4 ∷ b.c3 ∷ b.c2 ∷ [])) (λ s9.
-    then (dot (a.c3 ∷ a.c4 ∷ a.c5 ∷ a.c6 ∷ a.c7 ∷ []) (b.c7 ∷ b.c6 ∷ b.c5 ∷ b.c4 ∷ b.c3 ∷ [])) (λ s10.
-    then (dot (a.c4 ∷ a.c5 ∷ a.c6 ∷ a.c7 ∷ []) (b.c7 ∷ b.c6 ∷ b.c5 ∷ b.c4 ∷ [])) (λ s11.
-    then (dot (a.c5 ∷ a.c6 ∷ a.c7 ∷ []) (b.c7 ∷ b.c6 ∷ b.c5 ∷ [])) (λ s12.
-    then (dot (a.c6 ∷ a.c7 ∷ []) (b.c7 ∷ b.c6 ∷ [])) (λ s13.
-    then (dot (a.c7 ∷ []) (b.c7 ∷ [])) (λ s14.
-    give (record { s8 = s8; s9 = s9; s10 = s10; s11 = s11; s12 = s12; s13 = s13; s14 = s14 }))))))))
-
--- the sum of products, less x and y
-unfoldable pub less_two : List Whole → List Whole → Whole → Whole → Checked Whole
-less_two xs ys x y = then (dot xs ys) (λ s. dot (num (pos 1) ∷ num (negsuc 0) ∷ num (negsuc 0) ∷ []) (s ∷ x ∷ y ∷ []))
-
--- the sum of products, and x with a sign
-unfoldable pub and_one : List Whole → List Whole → Whole → Whole → Checked Whole
-and_one xs ys sign x = then (dot xs ys) (λ s. dot (num (pos 1) ∷ sign ∷ []) (s ∷ x ∷ []))
-
 -- eight numerators, then a denominator
 unfoldable pub fraction8 : Checked Whole → Checked Whole → Checked Whole → Checked Whole → Checked Whole → Checked Whole → Checked Whole → Checked Whole → Checked Whole → Checked Fraction8
 fraction8 c0 c1 c2 c3 c4 c5 c6 c7 d =
     then c0 (λ c0. then c1 (λ c1. then c2 (λ c2. then c3 (λ c3. then c4 (λ c4. then c5 (λ c5. then c6 (λ c6. then c7 (λ c7. then d (λ d.
     give (record { d = d; c0 = c0; c1 = c1; c2 = c2; c3 = c3; c4 = c4; c5 = c5; c6 = c6; c7 = c7 }))))))))))
-
--- the coefficients of the product by those of degree 8 to 14, and the product of the denominators
-unfoldable pub low : Fraction8 → Fraction8 → High → Checked Fraction8
-low a b h =
-    fraction8
-    (less_two (a.c0 ∷ []) (b.c0 ∷ []) h.s8 h.s12)
-    (less_two (a.c0 ∷ a.c1 ∷ []) (b.c1 ∷ b.c0 ∷ []) h.s9 h.s13)
-    (less_two (a.c0 ∷ a.c1 ∷ a.c2 ∷ []) (b.c2 ∷ b.c1 ∷ b.c0 ∷ []) h.s10 h.s14)
-    (and_one (a.c0 ∷ a.c1 ∷ a.c2 ∷ a.c3 ∷ []) (b.c3 ∷ b.c2 ∷ b.c1 ∷ b.c0 ∷ []) (num (negsuc 0)) h.s11)
-    (and_one (a.c0 ∷ a.c1 ∷ a.c2 ∷ a.c3 ∷ a.c4 ∷ []) (b.c4 ∷ b.c3 ∷ b.c2 ∷ b.c1 ∷ b.c0 ∷ []) (num (pos 1)) h.s8)
-    (and_one (a.c0 ∷ a.c1 ∷ a.c2 ∷ a.c3 ∷ a.c4 ∷ a.c5 ∷ []) (b.c5 ∷ b.c4 ∷ b.c3 ∷ b.c2 ∷ b.c1 ∷ b.c0 ∷ []) (num (pos 1)) h.s9)
-    (and_one (a.c0 ∷ a.c1 ∷ a.c2 ∷ a.c3 ∷ a.c4 ∷ a.c5 ∷ a.c6 ∷ []) (b.c6 ∷ b.c5 ∷ b.c4 ∷ b.c3 ∷ b.c2 ∷ b.c1 ∷ b.c0 ∷ []) (num (pos 1)) h.s10)
-    (and_one (a.c0 ∷ a.c1 ∷ a.c2 ∷ a.c3 ∷ a.c4 ∷ a.c5 ∷ a.c6 ∷ a.c7 ∷ []) (b.c7 ∷ b.c6 ∷ b.c5 ∷ b.c4 ∷ b.c3 ∷ b.c2 ∷ b.c1 ∷ b.c0 ∷ []) (num (pos 1)) h.s11)
-    (times a.d b.d)
-
--- the product, by z^8 = z^4 - 1 and z^12 = -1
-unfoldable pub product : Fraction8 → Fraction8 → Checked Fraction8
-product a b = then (high_sums a b) (λ h. low a b h)
 
 -- x p + y q
 abbrev pub joined : Whole → Whole → Whole → Whole → Checked Whole
@@ -145,47 +104,3 @@ negated r = record {
   c6 = minus r.c6;
   c7 = minus r.c7;
 }
-
--- the sum of two numbers with signs
-abbrev pub signed : ℤ → Whole → ℤ → Whole → Checked Whole
-signed f x g y = dot (num f ∷ num g ∷ []) (x ∷ y ∷ [])
-
--- the conjugate, over d
-unfoldable pub conjugate : Fraction8 → Checked Fraction8
-conjugate a =
-    then (plus a.c0 a.c4) (λ c0.
-    then (times (num (negsuc 0)) a.c4) (λ c4.
-    then (signed (negsuc 0) a.c3 (negsuc 0) a.c7) (λ c5.
-    then (signed (negsuc 0) a.c2 (negsuc 0) a.c6) (λ c6.
-    then (signed (negsuc 0) a.c1 (negsuc 0) a.c5) (λ c7.
-    give (record { d = a.d; c0 = c0; c1 = a.c3; c2 = a.c2; c3 = a.c1; c4 = c4; c5 = c5; c6 = c6; c7 = c7 }))))))
-
--- the real part, over 4 d
-unfoldable pub real : Fraction8 → Checked Fraction4
-real a =
-    fraction
-    (signed (pos 4) a.c0 (pos 2) a.c4)
-    (dot (num (pos 1) ∷ num (pos 2) ∷ num (negsuc 0) ∷ num (pos 1) ∷ []) (a.c1 ∷ a.c3 ∷ a.c5 ∷ a.c7 ∷ []))
-    (times (num (pos 2)) a.c2)
-    (dot (num (pos 1) ∷ num (pos 1) ∷ num (negsuc 0) ∷ []) (a.c1 ∷ a.c5 ∷ a.c7 ∷ []))
-    (times (num (pos 4)) a.d)
-
--- the imaginary part, over 4 d
-unfoldable pub imaginary : Fraction8 → Checked Fraction4
-imaginary a =
-    fraction
-    (signed (pos 2) a.c2 (pos 4) a.c6)
-    (dot (num (negsuc 0) ∷ num (pos 2) ∷ num (pos 1) ∷ num (pos 1) ∷ []) (a.c1 ∷ a.c3 ∷ a.c5 ∷ a.c7 ∷ []))
-    (times (num (pos 2)) a.c4)
-    (dot (num (pos 1) ∷ num (pos 1) ∷ num (pos 1) ∷ []) (a.c1 ∷ a.c5 ∷ a.c7 ∷ []))
-    (times (num (pos 4)) a.d)
-
--- a real number, over d
-unfoldable pub from_four : Fraction4 → Checked Fraction8
-from_four a =
-    then (plus a.a1 a.a3) (λ c1.
-    then (times (num (pos 2)) a.a2) (λ c2.
-    then (signed (negsuc 0) a.a1 (pos 1) a.a3) (λ c5.
-    then (times (num (negsuc 0)) a.a2) (λ c6.
-    then (times (num (negsuc 1)) a.a3) (λ c7.
-    give (record { d = a.d; c0 = a.a0; c1 = c1; c2 = c2; c3 = c1; c4 = num (pos 0); c5 = c5; c6 = c6; c7 = c7 }))))))

@@ -14,13 +14,16 @@ use Rattle.algebra.specs.Whole.{whole}
 use Rattle.algebra.specs.WholeLaws.{whole_ring}
 use Rattle.cyclo24.specs.Listed.{is_exact}
 use Rattle.cyclo24.specs.ListedLaws.{exact_laws}
-use Rattle.cyclo24.specs.FractionMaps.{IsLinear}
-use Rattle.cyclo24.specs.ExactMaps.{exact_map, exact_member, exact_map-plus, exact_map-times, exact_map-same, exact_map-itself, exact_map-map, exact_map-zero, exact_map-member, plus-exact_map, times-exact_member, exact_member-times, exact_member-neg, exact_member-one, exact_member-zero}
+use Rattle.cyclo24.specs.FractionMapsLaws.{IsLinear}
+use Rattle.cyclo24.specs.ExactMapsLaws.{exact_map, exact_member, exact_map-plus, exact_map-times, exact_map-same, exact_map-itself, exact_map-map, exact_map-zero, exact_map-member, plus-exact_map, times-exact_member, exact_member-times, exact_member-neg, exact_member-one, exact_member-zero}
 use Rattle.cyclo24.specs.Four.{Four, num4}
-use Rattle.cyclo24.specs.FourNorm.{whole4, four, four_is}
-use Rattle.cyclo24.specs.Eight.{Eight, mul8, num8, conj8, re8, im8, real8, i8}
+use Rattle.cyclo24.specs.FourNorm.{whole4, four}
+use Rattle.cyclo24.specs.FourNormLaws.{four_is}
+use Rattle.cyclo24.specs.Eight.{Eight, mul8, num8}
+use Rattle.cyclo24.specs.EightParts.{conj8, re8, im8, real8, i8}
 use Rattle.cyclo24.specs.EightLaws.{conj8-conj8, conj8-add8, conj8-mul8, conj8-scale, conj8-num8, conj8-real8, conj8-i8, real8-add4, real8-mul4, real8-num4, real8-scale, re8-add8, re8-scale, im8-add8, im8-scale, re8-real8, im8-real8, re8-i, im8-i, i8-i8, parts8}
-use Rattle.cyclo24.specs.EightNorm.{whole8, whole8_ring, eight, eight_is, above0, above3}
+use Rattle.cyclo24.specs.EightNorm.{whole8, eight}
+use Rattle.cyclo24.specs.EightNormLaws.{whole8_ring, eight_is, above0, above3}
 use Rattle.cyclo24.specs.ExactZ24.{z24_laws, conj, real_part, imag_part, from_real, imaginary}
 
 abbrev k24 : FieldOn (Exact (is_exact 4))

@@ -6,7 +6,8 @@ ghost use Rattle.cyclo24.specs.ExactZ24.{ExactZ24, z24_laws, conj, real_part, im
 ghost use Rattle.cyclo24.specs.Numerals.{of_whole};
 ghost use Rattle.cyclo24.specs.Listed.{denominator};
 ghost use Rattle.cyclo24.specs.Coefficients.{in_powers, reduced8};
-ghost use Rattle.cyclo24.specs.Written8.{fraction8_of, numbers8, sum, product, negated};
+ghost use Rattle.cyclo24.specs.Written8.{fraction8_of, numbers8, sum, negated};
+ghost use Rattle.cyclo24.specs.Written8Products.{product};
 ghost use Rattle.cyclo24.specs.RootsK24.{r2, r3, r6};
 
 /// Conjugation is an involution that respects sums and products, and keeps real numbers.

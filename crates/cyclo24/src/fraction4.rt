@@ -4,7 +4,8 @@ ghost use Rattle.std.specs.Int.RustNames.{unsigned_abs};
 ghost use Rattle.cyclo24.specs.Checked.{answer, is_wide};
 ghost use Rattle.cyclo24.specs.Gcd.{common, lowest_terms, all_zero};
 ghost use Rattle.cyclo24.specs.Listed.{is_positive};
-ghost use Rattle.cyclo24.specs.Written4.{numerators4, numbers4, IsNarrow4, product0, product1, product2, product3, product, joined, sum_over, sum, norm_u, norm_v, norm, multiple, inverse_over, inverse, negated, upright};
+ghost use Rattle.cyclo24.specs.Written4.{numerators4, numbers4, IsNarrow4, product0, product1, product2, product3, product, joined, sum_over, sum, negated};
+ghost use Rattle.cyclo24.specs.Written4Inverse.{norm_u, norm_v, norm, multiple, inverse_over, inverse, upright};
 
 use crate::Wide;
 use crate::whole::{Product, Whole, sum_of};

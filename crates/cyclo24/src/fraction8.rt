@@ -4,7 +4,9 @@ ghost use Rattle.std.specs.Int.RustNames.{unsigned_abs};
 ghost use Rattle.cyclo24.specs.Checked.{answer, is_wide};
 ghost use Rattle.cyclo24.specs.Listed.{is_positive};
 ghost use Rattle.cyclo24.specs.Gcd.{common, lowest_terms, all_zero};
-ghost use Rattle.cyclo24.specs.Written8.{numerators8, numbers8, IsNarrow8, dot, high_sums, less_two, and_one, low, product, joined, sum_over, sum, negated, conjugate, real, imaginary, from_four};
+ghost use Rattle.cyclo24.specs.Written8.{numerators8, numbers8, IsNarrow8, dot, joined, sum_over, sum, negated};
+ghost use Rattle.cyclo24.specs.Written8Products.{high_sums, less_two, and_one, low, product};
+ghost use Rattle.cyclo24.specs.Written8Parts.{conjugate, real, imaginary, from_four};
 
 use crate::Wide;
 use crate::fraction4::Fraction4;

@@ -6,7 +6,8 @@ ghost use Rattle.cyclo24.specs.Four.{norm4};
 ghost use Rattle.algebra.specs.Whole.{whole};
 ghost use Rattle.cyclo24.specs.Checked.{any_wide};
 ghost use Rattle.cyclo24.specs.Listed.{is_positive};
-ghost use Rattle.cyclo24.specs.Written4.{numerators4, IsNarrow4, product, sum, inverse, upright};
+ghost use Rattle.cyclo24.specs.Written4.{numerators4, IsNarrow4, product, sum};
+ghost use Rattle.cyclo24.specs.Written4Inverse.{inverse, upright};
 ghost use Rattle.cyclo24.specs.Short4.{short_of, four_of, IsWithin4, IsRational4};
 ghost use Rattle.cyclo24.specs.Lowest4.{IsAnswered4};
 

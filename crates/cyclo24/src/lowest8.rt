@@ -4,7 +4,8 @@ ghost use Rattle.std.specs.Prelude.{◌≡◌, ◌≤◌, ◌^◌, pos, true, If
 ghost use Rattle.std.specs.Int.RustNames.{unsigned_abs};
 ghost use Rattle.cyclo24.specs.Checked.{any_wide};
 ghost use Rattle.cyclo24.specs.Listed.{is_positive};
-ghost use Rattle.cyclo24.specs.Written8.{numerators8, IsNarrow8, product, sum};
+ghost use Rattle.cyclo24.specs.Written8.{numerators8, IsNarrow8, sum};
+ghost use Rattle.cyclo24.specs.Written8Products.{product};
 ghost use Rattle.cyclo24.specs.Short8.{short_of, IsWithin8, IsRational8};
 ghost use Rattle.cyclo24.specs.Lowest8.{IsAnswered8};
 

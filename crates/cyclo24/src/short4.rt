@@ -5,7 +5,8 @@ ghost use Rattle.cyclo24.specs.Four.{mul4, norm_u, norm_v, norm4};
 ghost use Rattle.cyclo24.specs.Gcd.{gcd, common, quotient, lowest_terms};
 ghost use Rattle.cyclo24.specs.Listed.{is_positive};
 ghost use Rattle.algebra.specs.Whole.{whole};
-ghost use Rattle.cyclo24.specs.Written4.{numbers4, IsNarrow4, upright};
+ghost use Rattle.cyclo24.specs.Written4.{numbers4, IsNarrow4};
+ghost use Rattle.cyclo24.specs.Written4Inverse.{upright};
 ghost use Rattle.cyclo24.specs.Short4.{short_of, wide_of, four_of, numerators, rational, IsWithin4, AreWithin4};
 
 use crate::formulas4::{less, norm, norm_u, norm_v, plus, product0, product1, product2, product3};

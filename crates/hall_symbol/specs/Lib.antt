@@ -1,5 +1,6 @@
 pub mod Words
 pub mod Rotations
+pub mod Axes
 pub mod RotationLaws
 pub mod Steps
 pub mod Spelling

@@ -1,16 +1,17 @@
 -- Laws of the table of the sixteen rotations.
 --
 -- determinant_one, power_one: determinant 1, and R^N = 1 for a rotation of order N
--- direction_of rotation, direction_kept: the direction of its axis, which it keeps
+-- direction_kept: a rotation keeps the direction of its axis
 -- IsUnimodular-signed: R and -R have the determinant 1 or -1
-use Rattle.std.specs.Prelude.{◌≡◌, ℕ, zero, suc, ℤ, pos, negsuc, Bool, true, false, Option, Some, None, IfSome, refl}
-use Rattle.space_ops.specs.Matrix.{Matrix, Vector, determinant, image_under, matrix_times, unit_matrix}
+use Rattle.std.specs.Prelude.{◌≡◌, pos, Bool, true, false, IfSome, refl}
+use Rattle.space_ops.specs.Matrix.{determinant, image_under, unit_matrix}
 use Rattle.space_ops.specs.Op.{IsUnimodular, matrix_of}
 use Rattle.algebra.specs.Whole.{whole}
 use Rattle.hall_symbol.specs.declared.rotation.Rotation.{Rotation}
 use Rattle.hall_symbol.specs.declared.rotation.Rotation.TheVariants.{One, TwoZ, ThreeZ, FourZ, SixZ, TwoX, TwoY, FourX, FourY, TwoPrimeAfterZ, TwoDoublePrimeAfterZ, TwoPrimeAfterX, TwoDoublePrimeAfterX, TwoPrimeAfterY, TwoDoublePrimeAfterY, ThreeStar}
 use Rattle.hall_symbol.specs.Operations.{signed}
 use Rattle.hall_symbol.specs.Rotations.{rotation_rows, order_of, value_of}
+use Rattle.hall_symbol.specs.Axes.{power, direction_of}
 
 pub determinant_one : (r : Rotation) → determinant whole (matrix_of (rotation_rows r)) ≡ pos 1
 determinant_one One = refl
@@ -30,11 +31,6 @@ determinant_one TwoPrimeAfterY = refl
 determinant_one TwoDoublePrimeAfterY = refl
 determinant_one ThreeStar = refl
 
--- so many factors
-abbrev pub power : ℕ → Matrix ℤ → Matrix ℤ
-power zero a = unit_matrix whole
-power (suc n) a = matrix_times whole a (power n a)
-
 pub power_one : (r : Rotation) → power (value_of (order_of r)) (matrix_of (rotation_rows r)) ≡ unit_matrix whole
 power_one One = refl
 power_one TwoZ = refl
@@ -52,25 +48,6 @@ power_one TwoDoublePrimeAfterX = refl
 power_one TwoPrimeAfterY = refl
 power_one TwoDoublePrimeAfterY = refl
 power_one ThreeStar = refl
-
--- the direction of the axis; the identity has none
-abbrev pub direction_of : Rotation → Option (Vector ℤ)
-direction_of One = None
-direction_of TwoZ = Some (record { x = pos 0; y = pos 0; z = pos 1 })
-direction_of ThreeZ = Some (record { x = pos 0; y = pos 0; z = pos 1 })
-direction_of FourZ = Some (record { x = pos 0; y = pos 0; z = pos 1 })
-direction_of SixZ = Some (record { x = pos 0; y = pos 0; z = pos 1 })
-direction_of TwoX = Some (record { x = pos 1; y = pos 0; z = pos 0 })
-direction_of TwoY = Some (record { x = pos 0; y = pos 1; z = pos 0 })
-direction_of FourX = Some (record { x = pos 1; y = pos 0; z = pos 0 })
-direction_of FourY = Some (record { x = pos 0; y = pos 1; z = pos 0 })
-direction_of TwoPrimeAfterZ = Some (record { x = pos 1; y = negsuc 0; z = pos 0 })
-direction_of TwoDoublePrimeAfterZ = Some (record { x = pos 1; y = pos 1; z = pos 0 })
-direction_of TwoPrimeAfterX = Some (record { x = pos 0; y = pos 1; z = negsuc 0 })
-direction_of TwoDoublePrimeAfterX = Some (record { x = pos 0; y = pos 1; z = pos 1 })
-direction_of TwoPrimeAfterY = Some (record { x = pos 1; y = pos 0; z = negsuc 0 })
-direction_of TwoDoublePrimeAfterY = Some (record { x = pos 1; y = pos 0; z = pos 1 })
-direction_of ThreeStar = Some (record { x = pos 1; y = pos 1; z = pos 1 })
 
 pub direction_kept : (r : Rotation) → IfSome (direction_of r) (λ d. image_under whole (matrix_of (rotation_rows r)) d ≡ d)
 direction_kept One = tt

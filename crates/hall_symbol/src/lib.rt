@@ -18,5 +18,5 @@ mod symbol;
 mod table;
 mod words;
 
-pub use laws::law_of_symbols;
+pub use laws::{law_of_parts, law_of_rotations, law_of_symbols};
 pub use symbol::{BadHall, Generators, read};

@@ -5,7 +5,7 @@ use Rattle.std.specs.List.{list_all}
 use Rattle.std.specs.Option.{option_to_list}
 use Rattle.std.proofs.lemmas.Bool.{ltb-true}
 use Rattle.std.proofs.lemmas.List.{map-append}
-use Rattle.iso_text.specs.Draft.{draft, on_k, takes_mat, on_mat, takes_vector, on_vector}
+use Rattle.iso_text.specs.DraftLines.{draft, on_k, takes_mat, on_mat, takes_vector, on_vector}
 use Rattle.iso_text.specs.File.{IsSound, is_first_format, is_block, has_entries}
 use Rattle.iso_text.specs.FileLines.{sections, body_lines, block_lines, parent_lines}
 use Rattle.iso_text.specs.FileValue.{File}

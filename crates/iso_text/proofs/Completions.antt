@@ -4,7 +4,8 @@ use Rattle.std.specs.Prelude.{◌⊎◌, option_and_then, is_none}
 use Rattle.std.specs.List.{list_all}
 use Rattle.std.proofs.lemmas.Bool.Decides.{nat_tests}
 use Rattle.std.proofs.lemmas.List.{length-replicate}
-use Rattle.iso_text.specs.Draft.{draft, takes_mat, on_section}
+use Rattle.iso_text.specs.Draft.{on_section}
+use Rattle.iso_text.specs.DraftLines.{draft, takes_mat}
 use Rattle.iso_text.specs.File.{has_entries}
 use Rattle.iso_text.specs.FileLines.{empty_file}
 use Rattle.iso_text.specs.FileValue.{File}

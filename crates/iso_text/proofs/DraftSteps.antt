@@ -3,7 +3,8 @@ use Rattle.std.proofs.Common.{◌≡◌, ℕ, Bool, true, false, List, [], ◌�
 use Rattle.std.specs.Prelude.{◌⊎◌, option_and_then}
 use Rattle.std.proofs.lemmas.Bool.{ltb-true}
 use Rattle.std.proofs.lemmas.List.{map-append}
-use Rattle.iso_text.specs.Draft.{draft, settled, on_head, on_hall, on_lattice, on_op, on_section, next_of}
+use Rattle.iso_text.specs.Draft.{on_section, next_of}
+use Rattle.iso_text.specs.DraftLines.{draft, settled, on_head, on_hall, on_lattice, on_op}
 use Rattle.iso_text.specs.File.{IsSound}
 use Rattle.iso_text.specs.FileLines.{body_lines, empty_file}
 use Rattle.iso_text.specs.FileValue.{File}

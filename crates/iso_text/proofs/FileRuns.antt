@@ -4,7 +4,8 @@ use Rattle.std.specs.Prelude.{◌⊎◌, option_and_then, is_none, is_some}
 use Rattle.std.specs.List.{list_all, flat_map}
 use Rattle.std.specs.Option.{option_to_list}
 use Rattle.std.proofs.lemmas.Bool.{lt-ltb}
-use Rattle.iso_text.specs.Draft.{draft, settled, section_takes, on_section, begin}
+use Rattle.iso_text.specs.Draft.{section_takes, on_section, begin}
+use Rattle.iso_text.specs.DraftLines.{draft, settled}
 use Rattle.iso_text.specs.File.{IsSound, is_first_format, is_few, is_block, is_new, have_new_names}
 use Rattle.iso_text.specs.FileLines.{Section, sections, each, block_lines, body_lines, parent_lines, file_lines}
 use Rattle.iso_text.specs.FileValue.{File}

@@ -4,7 +4,8 @@ use Rattle.std.specs.Prelude.{option_and_then}
 use Rattle.std.specs.Option.{option_map}
 use Rattle.std.specs.Str.{bytes_eq}
 use Rattle.iso_text.specs.Cuts.{front, back, words_of, is_blank}
-use Rattle.iso_text.specs.LineKinds.{keyword_of, head_of, lattice_of, op_of, irrep_of, k_of, mat_of, vector_of, atom_of, tolerance_line_of, cell_of, value_of, axial_of, end_of, by_keyword, said_by}
+use Rattle.iso_text.specs.LineKinds.{head_of, lattice_of, op_of, irrep_of, k_of, mat_of, vector_of, atom_of, tolerance_line_of, cell_of, value_of, axial_of, end_of, by_keyword, said_by}
+use Rattle.iso_text.specs.LineWords.{keyword_of}
 use Rattle.iso_text.specs.LineSpellings.{keyword, Says, SpellsLine}
 use Rattle.iso_text.specs.Lines.{unindented}
 use Rattle.iso_text.specs.WordSpellings.{IsWord, AreWords}

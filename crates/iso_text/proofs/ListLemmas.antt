@@ -5,7 +5,7 @@ use Rattle.std.specs.Option.{option_map}
 use Rattle.std.proofs.lemmas.Bool.Decides.{nat_tests}
 use Rattle.iso_text.specs.Cuts.{words_of}
 use Rattle.iso_text.specs.Numbers.{number_of}
-use Rattle.iso_text.specs.LineKinds.{numbers_of, few_numbers_of}
+use Rattle.iso_text.specs.LineWords.{numbers_of, few_numbers_of}
 use Rattle.iso_text.specs.declared.numbers.Term.{Term}
 
 joined : (items : List (List Term)) (n : List Term) (o : Option (List (List Term))) → option_map (λ ns. items ++ ns) (option_map (λ ns. n ∷ ns) o) ≡ option_map (λ ns. (items ++ n ∷ []) ++ ns) o

@@ -5,7 +5,7 @@ use Rattle.std.specs.Option.{option_map}
 use Rattle.std.specs.Str.{bytes_eq}
 use Rattle.std.proofs.lemmas.Slice.Eq.{bytes_eq-Decides}
 use Rattle.iso_text.specs.Fractions.{place_of}
-use Rattle.iso_text.specs.LineKinds.{is_none_left, one, two, three_of, site_of, name_of, numbers_of, few_numbers_of}
+use Rattle.iso_text.specs.LineWords.{is_none_left, one, two, three_of, site_of, name_of, numbers_of, few_numbers_of}
 use Rattle.iso_text.specs.Name.{is_name}
 use Rattle.iso_text.specs.Numbers.{number_of}
 use Rattle.iso_text.specs.Spellings.{SpellsPlace}

@@ -5,7 +5,8 @@ use Rattle.std.specs.List.{list_all, flat_map}
 use Rattle.std.specs.Option.{option_to_list}
 use Rattle.std.proofs.lemmas.Bool.{lt-ltb}
 use Rattle.std.proofs.lemmas.Bool.Decides.{nat_tests}
-use Rattle.iso_text.specs.Draft.{draft, settled, section_takes, on_irrep, takes_mat, takes_vector, on_section, next_of, begin}
+use Rattle.iso_text.specs.Draft.{section_takes, on_section, next_of, begin}
+use Rattle.iso_text.specs.DraftLines.{draft, settled, on_irrep, takes_mat, takes_vector}
 use Rattle.iso_text.specs.File.{is_parent, has_entries, is_block, is_new}
 use Rattle.iso_text.specs.FileLines.{each, block_lines, parent_lines, empty_file}
 use Rattle.iso_text.specs.FileValue.{File}

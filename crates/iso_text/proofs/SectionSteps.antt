@@ -4,7 +4,8 @@ use Rattle.std.specs.Prelude.{◌⊎◌, is_some, not}
 use Rattle.std.specs.List.{flat_map, list_all}
 use Rattle.std.specs.Option.{option_to_list}
 use Rattle.std.proofs.lemmas.List.{map-append}
-use Rattle.iso_text.specs.Draft.{draft, has_room, section_takes, on_section, is_second, is_matched}
+use Rattle.iso_text.specs.Draft.{has_room, section_takes, on_section, is_second, is_matched}
+use Rattle.iso_text.specs.DraftLines.{draft}
 use Rattle.iso_text.specs.File.{IsSound, is_first_format, is_parent, is_block, is_new, have_new_names}
 use Rattle.iso_text.specs.FileLines.{Section, sections, section_lines, each, body_lines, parent_lines}
 use Rattle.iso_text.specs.FileValue.{File}

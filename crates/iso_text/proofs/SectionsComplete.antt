@@ -3,7 +3,8 @@ use Rattle.std.proofs.Common.{◌≡◌, ℕ, ℤ, ◌+◌, ◌-◌, ◌≤◌, 
 use Rattle.std.specs.Prelude.{option_and_then}
 use Rattle.std.specs.Option.{option_map}
 use Rattle.iso_text.specs.Fractions.{k_fraction_of, place_of}
-use Rattle.iso_text.specs.LineKinds.{is_none_left, one, three_of, site_of, name_of, few_numbers_of, head_of, lattice_of, op_of, size_of, irrep_of, k_of, mat_of, vector_of, atom_of, tolerance_line_of, cell_of, value_of, axial_of, end_of}
+use Rattle.iso_text.specs.LineKinds.{head_of, lattice_of, op_of, irrep_of, k_of, mat_of, vector_of, atom_of, tolerance_line_of, cell_of, value_of, axial_of, end_of}
+use Rattle.iso_text.specs.LineWords.{is_none_left, one, three_of, site_of, name_of, few_numbers_of, size_of}
 use Rattle.iso_text.specs.LineSpellings.{Says}
 use Rattle.iso_text.specs.Spellings.{SpellsKFraction, SpellsPlace}
 use Rattle.iso_text.specs.WordSpellings.{Three, SpellsSite}

@@ -4,7 +4,8 @@ use Rattle.std.specs.Prelude.{option_and_then}
 use Rattle.std.specs.Option.{option_map}
 use Rattle.std.specs.Str.{bytes_eq}
 use Rattle.iso_text.specs.Fractions.{k_fraction_of, place_of, tolerance_of}
-use Rattle.iso_text.specs.LineKinds.{is_none_left, one, two, three_of, site_of, name_of, few_numbers_of, head_of, letter_of, lattice_of, op_of, size_of, irrep_of, k_of, mat_of, vector_of, atom_of, tolerance_line_of, cell_of, value_of, axial_of, end_of}
+use Rattle.iso_text.specs.LineKinds.{head_of, lattice_of, op_of, irrep_of, k_of, mat_of, vector_of, atom_of, tolerance_line_of, cell_of, value_of, axial_of, end_of}
+use Rattle.iso_text.specs.LineWords.{is_none_left, one, two, three_of, site_of, name_of, few_numbers_of, letter_of, size_of}
 use Rattle.iso_text.specs.LineSpellings.{keyword, Says}
 use Rattle.iso_text.specs.Operations.{operation_of}
 use Rattle.iso_text.specs.SectionSpellings.{is_letter, SpellsCell}

@@ -3,7 +3,8 @@ use Rattle.std.proofs.Common.{◌≡◌, ℕ, ◌+◌, ◌≤◌, List, [], ◌�
 use Rattle.std.specs.Prelude.{option_and_then}
 use Rattle.std.specs.List.{list_all}
 use Rattle.std.proofs.lemmas.List.Folds.{list_all-append}
-use Rattle.iso_text.specs.Draft.{draft, next_of, begin, finished, Refuses}
+use Rattle.iso_text.specs.Draft.{next_of, begin, finished, Refuses}
+use Rattle.iso_text.specs.DraftLines.{draft}
 use Rattle.iso_text.specs.File.{IsFile, IsStart, IsBadAfter, HasCause}
 use Rattle.iso_text.specs.FileLines.{file_lines}
 use Rattle.iso_text.specs.FileValue.{File}

@@ -2,6 +2,7 @@ pub mod Counts
 pub mod Cuts
 pub mod Digits
 pub mod DivisorLaws
+pub mod DraftLines
 pub mod Draft
 pub mod File
 pub mod FileLaws
@@ -9,6 +10,7 @@ pub mod FileLines
 pub mod FileValue
 pub mod FractionLaws
 pub mod Fractions
+pub mod LineWords
 pub mod LineKinds
 pub mod LineSpellings
 pub mod Lines
@@ -17,6 +19,7 @@ pub mod Mark
 pub mod Memory
 pub mod Name
 pub mod NameView
+pub mod NameViewLaws
 pub mod Numbers
 pub mod OperationSpellings
 pub mod Operations

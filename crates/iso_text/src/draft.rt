@@ -1,6 +1,7 @@
 // Where a reader of lines stands.
 ghost use Rattle.std.specs.Prelude.{◌≡◌, Some};
-ghost use Rattle.iso_text.specs.Draft.{draft, begin, finished};
+ghost use Rattle.iso_text.specs.Draft.{begin, finished};
+ghost use Rattle.iso_text.specs.DraftLines.{draft};
 
 use crate::document::Document;
 use crate::line_kinds::IrrepLine;

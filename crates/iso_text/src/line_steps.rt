@@ -1,6 +1,7 @@
 // The draft with one line more.
 ghost use Rattle.std.specs.Prelude.{◌≡◌, IfOk, Some, None, true, if◌then◌else◌, option_and_then};
-ghost use Rattle.iso_text.specs.Draft.{settled, on_head, on_hall, on_lattice, on_op, on_k, takes_mat, on_mat, on_vector, on_section, next_of};
+ghost use Rattle.iso_text.specs.Draft.{on_section, next_of};
+ghost use Rattle.iso_text.specs.DraftLines.{settled, on_head, on_hall, on_lattice, on_op, on_k, takes_mat, on_mat, on_vector};
 ghost use Rattle.iso_text.specs.declared.draft.Draft.{Draft};
 
 use crate::NoMemory;

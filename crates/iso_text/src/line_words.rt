@@ -1,7 +1,8 @@
 // Reading the lines of a file.
 ghost use Rattle.std.specs.Prelude.{◌≡◌, IfOk};
 ghost use Rattle.iso_text.specs.Cuts.{words_of};
-ghost use Rattle.iso_text.specs.LineKinds.{keyword_of, head_of, hall_of, lattice_of, op_of, size_of, irrep_of, k_of, few_numbers_of, mat_of, vector_of, atom_of, tolerance_line_of, cell_of, value_of, axial_of, end_of, by_keyword, said_by, kind_of};
+ghost use Rattle.iso_text.specs.LineKinds.{head_of, hall_of, lattice_of, op_of, irrep_of, k_of, mat_of, vector_of, atom_of, tolerance_line_of, cell_of, value_of, axial_of, end_of, by_keyword, said_by, kind_of};
+ghost use Rattle.iso_text.specs.LineWords.{keyword_of, size_of, few_numbers_of};
 
 use crate::NoMemory;
 use crate::cuts::{Mark, first_word, split_at_mark};

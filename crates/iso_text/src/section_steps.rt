@@ -1,7 +1,8 @@
 // The lines of the sections behind the parent: which of them may stand next.
 ghost use Rattle.std.specs.Prelude.{◌≡◌, ◌<◌, ◌==◌, IfOk, IfSome, Some, None, if◌then◌else◌};
 ghost use Rattle.std.specs.List.{list_all};
-ghost use Rattle.iso_text.specs.Draft.{on_irrep, has_room, section_takes, section_of, with_line, on_section};
+ghost use Rattle.iso_text.specs.Draft.{has_room, section_takes, section_of, with_line, on_section};
+ghost use Rattle.iso_text.specs.DraftLines.{on_irrep};
 ghost use Rattle.iso_text.specs.File.{is_new};
 ghost use Rattle.iso_text.specs.FileLines.{sections};
 

@@ -4,7 +4,7 @@ ghost use Rattle.std.specs.Option.{option_copied, option_map};
 ghost use Rattle.std.specs.Str.{bytes_eq};
 ghost use Rattle.iso_text.specs.Cuts.{words_of};
 ghost use Rattle.iso_text.specs.Fractions.{k_fraction_of, place_of};
-ghost use Rattle.iso_text.specs.LineKinds.{is_none_left, one, two, three_of, site_of};
+ghost use Rattle.iso_text.specs.LineWords.{is_none_left, one, two, three_of, site_of};
 
 use crate::cuts::first_word;
 use crate::fractions::{k_fraction, place};

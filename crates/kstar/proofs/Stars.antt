@@ -6,7 +6,7 @@ use Rattle.space_ops.specs.Matrix.{Vector}
 use Rattle.space_ops.specs.Group.{Parent}
 use Rattle.kstar.specs.WaveVector.{AreEquivalent}
 use Rattle.algebra.specs.RisingLists.{IsRisingListOf}
-use Rattle.algebra.specs.Pigeonhole.{pigeonhole}
+use Rattle.algebra.specs.PigeonholeLaws.{pigeonhole}
 use Rattle.algebra.specs.RisingListLaws.{list-same, list-injective}
 use Rattle.kstar.specs.Star.{image_at, IsLittle, IsFirstOfArm, WaveStar, row_in, AreImages, IsStarOf}
 use Rattle.kstar.specs.Rows.{AreAllImages, AreRowsAt, IsStarOfRows}

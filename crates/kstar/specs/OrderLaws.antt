@@ -8,7 +8,7 @@ use Rattle.algebra.specs.NumberedGroupLaws.{product-back, cancel}
 use Rattle.space_ops.specs.Matrix.{Vector}
 use Rattle.space_ops.specs.Group.{Parent, IsParentGroup}
 use Rattle.space_ops.specs.GroupLaws.{rotation_group, rotation_group-lawful}
-use Rattle.algebra.specs.Pigeonhole.{pigeonhole}
+use Rattle.algebra.specs.PigeonholeLaws.{pigeonhole}
 use Rattle.kstar.specs.WaveVector.{AreEquivalent}
 use Rattle.kstar.specs.WaveVectorLaws.{equivalent-sym, equivalent-trans}
 use Rattle.algebra.specs.RisingLists.{IsRisingListOf}

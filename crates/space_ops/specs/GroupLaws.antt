@@ -31,7 +31,7 @@ use Rattle.space_ops.specs.Words.{op_at, vector_difference, IsLatticeVector, Are
 use Rattle.space_ops.specs.WordLaws.{AreUnimodular, translation, word-product, word-inverse, word-lattice, more_less}
 use Rattle.space_ops.specs.LeastShiftLaws.{lists_exact}
 use Rattle.space_ops.specs.Group.{Parent, IsListed, IsParentGroup, matrix_cmp}
-use Rattle.algebra.specs.Pigeonhole.{pigeonhole}
+use Rattle.algebra.specs.PigeonholeLaws.{pigeonhole}
 
 -- r is the rotation of a listed operation
 abbrev pub HasRotation : List Op → Matrix ℤ → Type 0

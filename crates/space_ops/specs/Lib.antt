@@ -18,7 +18,7 @@ pub mod Closing
 pub mod Order
 pub mod GroupView
 pub mod GroupLaws
-pub mod ListUnique
+pub mod ListUniqueLaws
 pub mod Member
 pub mod MemberLaws
 pub mod OpGroup

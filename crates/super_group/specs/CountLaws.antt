@@ -12,7 +12,7 @@ use Rattle.space_ops.specs.MatrixLaws.{same_vector}
 use Rattle.space_ops.specs.Lattice.{centrings_of}
 use Rattle.space_ops.specs.Words.{centring_at, IsLatticeVector}
 use Rattle.space_ops.specs.LeastShift.{IsTwelfth}
-use Rattle.algebra.specs.Pigeonhole.{pigeonhole}
+use Rattle.algebra.specs.PigeonholeLaws.{pigeonhole}
 use Rattle.super_group.specs.Supercell.{multiplier, IsInside}
 use Rattle.super_group.specs.Quotient.{translation_at, AreTranslations, SupercellGroup, IsQuotient, order_of, order_in}
 use Rattle.super_group.specs.TranslationLaws.{centrings-in_cell, lattice_vector, lattice_numbers-unique}

@@ -1,6 +1,6 @@
 -- Laws of supercells.
 --
--- cell_zero, cell_sum, cell_minus, cell_difference: the translations of a supercell are a group
+-- cell_zero, cell_sum, cell_minus: the translations of a supercell are a group
 -- cell_image, member-cell: a listed rotation and that of a member take cells to cells
 -- cell_differ-sym, cell_differ-trans: differing by a cell is symmetric and transitive
 -- cell-lattice: a translation of the supercell is a lattice vector
@@ -10,9 +10,8 @@
 -- reduced-cell, reduced-inside: the reduced vector differs by a cell, and is inside
 -- reduced-lattice, reduced-same: that of a lattice vector is one, and vectors that differ by a cell have one
 -- inside-unique: vectors inside that differ by a cell are equal
-use Rattle.std.proofs.Common.{◌≡◌, refl, sym, ap, ◌∙◌, subst, ℕ, zero, suc, ◌<◌, ◌+◌, ◌*◌, ◌/◌, ◌%◌, ℤ, pos, negsuc, ◌+ℤ◌, ◌*ℤ◌, neg_ℤ, ◌≤ℤ◌, ◌<ℤ◌, List, [], ◌∷◌, length, arith}
+use Rattle.std.proofs.Common.{◌≡◌, refl, sym, ap, ◌∙◌, subst, ℕ, zero, suc, ◌<◌, ◌+◌, ◌*◌, ℤ, pos, negsuc, ◌+ℤ◌, ◌*ℤ◌, List, [], ◌∷◌, length, arith}
 use Rattle.std.proofs.lemmas.Int.{ints}
-use Rattle.std.specs.Int.{int_rem_euclid}
 use Rattle.space_ops.specs.declared.op.Op.{Op}
 use Rattle.space_ops.specs.declared.lattice.Lattice.{Lattice}
 use Rattle.algebra.specs.Multiples.{IsMultiple}
@@ -26,7 +25,7 @@ use Rattle.space_ops.specs.Words.{op_at, vector_difference, cell_edges, IsLattic
 use Rattle.space_ops.specs.LatticeLaws.{zero-lattice, edges-lattice, sum-lattice, difference_step, minus_difference, zero_difference}
 use Rattle.space_ops.specs.WordLaws.{word-inverse}
 use Rattle.space_ops.specs.GroupLaws.{word-unimodular, parent-word}
-use Rattle.super_group.specs.Supercell.{entry, multiplier, edge, IsSupercell, IsCell, IsSameElement, IsInside, reduced}
+use Rattle.super_group.specs.Supercell.{entry, multiplier, IsSupercell, IsCell, IsSameElement, IsInside, reduced}
 use Rattle.super_group.specs.Quotient.{SupercellGroup, IsQuotient, IsMember}
 
 zero_times : (n : ℕ) (u : ℤ) → IsMultiple n (pos 0 *ℤ u)
@@ -50,9 +49,6 @@ pub cell_minus : (d : List ℕ) (v : Vector ℤ) → IsCell d v → IsCell d (mi
 cell_minus d v h =
     cell_of d (minus_vector whole v) (multiple_minus (12 * multiplier d 0) v.x (record { quotient = h.edges.x; is = h.x })) (multiple_minus (12 * multiplier d 1) v.y (record { quotient = h.edges.y; is = h.y }))
     (multiple_minus (12 * multiplier d 2) v.z (record { quotient = h.edges.z; is = h.z }))
-
-pub cell_difference : (d : List ℕ) (v w : Vector ℤ) → IsCell d v → IsCell d w → IsCell d (vector_difference v w)
-cell_difference d v w h k = cell_sum d v (minus_vector whole w) h (cell_minus d w k)
 
 -- axes that an entry joins have one multiplier
 linked_edges : (ops : List Op) (d : List ℕ) → IsSupercell ops d → (n : ℕ) → n < length ops → (i j : ℕ) → i < 3 → j < 3

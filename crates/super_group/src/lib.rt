@@ -16,5 +16,5 @@ mod quotient;
 mod translations;
 
 pub use denominators::{are_denominators, multipliers};
-pub use laws::law_of_elements;
+pub use laws::{law_of_elements, law_of_multipliers};
 pub use quotient::{MAX_ORDER, Quotient, QuotientError};

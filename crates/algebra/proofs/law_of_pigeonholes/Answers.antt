@@ -1,4 +1,4 @@
-use Rattle.algebra.specs.Pigeonhole.{pigeonhole}
+use Rattle.algebra.specs.PigeonholeLaws.{pigeonhole}
 use Rattle.algebra.proofs.law_of_pigeonholes.Goals as goal
 
 pub returns : goal.returns

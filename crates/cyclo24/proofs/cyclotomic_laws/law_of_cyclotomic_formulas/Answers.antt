@@ -1,6 +1,6 @@
 use Rattle.cyclo24.specs.CoefficientsLaws.{sum_formula8, product_formula8, negative_formula8}
 use Rattle.std.proofs.Common.{sym}
-use Rattle.cyclo24.specs.Z24Parts.{inverse_is}
+use Rattle.cyclo24.specs.Z24PartsLaws.{inverse_is}
 use Rattle.cyclo24.proofs.cyclotomic_laws.law_of_cyclotomic_formulas.Goals as goal
 
 pub returns-clause-sum : goal.returns-clause-sum

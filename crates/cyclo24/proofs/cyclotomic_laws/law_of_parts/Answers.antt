@@ -1,5 +1,5 @@
 use Rattle.cyclo24.specs.Z24Laws.{parts, imaginary-square, real_part-plus, imag_part-plus}
-use Rattle.cyclo24.specs.Z24Parts.{no_parts, real_part-unit, imag_part-unit}
+use Rattle.cyclo24.specs.Z24PartsLaws.{no_parts, real_part-unit, imag_part-unit}
 use Rattle.cyclo24.proofs.cyclotomic_laws.law_of_parts.Goals as goal
 
 pub returns-clause-whole : goal.returns-clause-whole

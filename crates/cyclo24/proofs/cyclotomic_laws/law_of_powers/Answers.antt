@@ -1,4 +1,4 @@
-use Rattle.cyclo24.specs.Z24Roots.{times-power, power-8, power-12, power-6, from_real-r2, from_real-r3, from_real-r6}
+use Rattle.cyclo24.specs.Z24RootsLaws.{times-power, power-8, power-12, power-6, from_real-r2, from_real-r3, from_real-r6}
 use Rattle.cyclo24.specs.CoefficientsLaws.{conj-power}
 use Rattle.cyclo24.proofs.cyclotomic_laws.law_of_powers.Goals as goal
 

@@ -1,4 +1,4 @@
-use Rattle.cyclo24.specs.Z24Parts.{real_part-times, imag_part-times, real_part-conj, imag_part-conj, real_part-times-conj, times-conj}
+use Rattle.cyclo24.specs.Z24PartsLaws.{real_part-times, imag_part-times, real_part-conj, imag_part-conj, real_part-times-conj, times-conj}
 use Rattle.cyclo24.proofs.cyclotomic_laws.law_of_products_of_parts.Goals as goal
 
 pub returns-clause-real_products : goal.returns-clause-real_products

@@ -1,5 +1,6 @@
 use Rattle.std.proofs.Common.{rules, refl, sym}
-use Rattle.cyclo24.specs.Written4.{inverse_over, fraction}
+use Rattle.cyclo24.specs.Written4.{fraction}
+use Rattle.cyclo24.specs.Written4Inverse.{inverse_over}
 use Rattle.cyclo24.specs.CheckedLaws.{then_ok, then_err, answer_give}
 use Rattle.cyclo24.proofs.fraction4.inverse_over.Goals as goal
 

@@ -1,5 +1,5 @@
 use Rattle.std.proofs.Common.{rules}
-use Rattle.cyclo24.specs.Written4.{multiple}
+use Rattle.cyclo24.specs.Written4Inverse.{multiple}
 use Rattle.cyclo24.specs.CheckedLaws.{then_ok, then_err}
 use Rattle.cyclo24.proofs.fraction4.multiple.Goals as goal
 

@@ -1,5 +1,5 @@
 use Rattle.std.proofs.Common.{rules}
-use Rattle.cyclo24.specs.Written8.{less_two}
+use Rattle.cyclo24.specs.Written8Products.{less_two}
 use Rattle.cyclo24.specs.CheckedLaws.{then_ok, then_err}
 use Rattle.cyclo24.proofs.fraction8.less_two.Goals as goal
 

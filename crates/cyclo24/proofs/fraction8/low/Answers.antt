@@ -1,5 +1,6 @@
 use Rattle.std.proofs.Common.{rules, sym}
-use Rattle.cyclo24.specs.Written8.{low, fraction8}
+use Rattle.cyclo24.specs.Written8.{fraction8}
+use Rattle.cyclo24.specs.Written8Products.{low}
 use Rattle.cyclo24.specs.CheckedLaws.{then_ok, then_err, answer_give}
 use Rattle.cyclo24.proofs.fraction8.low.Goals as goal
 

@@ -1,6 +1,6 @@
 use Rattle.std.proofs.Common.{rules, ◌∙◌, sym}
 use Rattle.cyclo24.specs.CheckedLaws.{answer_err}
-use Rattle.cyclo24.specs.Written4.{inverse}
+use Rattle.cyclo24.specs.Written4Inverse.{inverse}
 use Rattle.cyclo24.specs.Lowest4Laws.{inverse_answered, inverse_ready, inverse_answered_by}
 use Rattle.cyclo24.proofs.lowest4.long_inverse.Goals as goal
 

@@ -1,6 +1,6 @@
 use Rattle.std.proofs.Common.{rules, ◌∙◌, sym}
 use Rattle.cyclo24.specs.CheckedLaws.{answer_err}
-use Rattle.cyclo24.specs.Written8.{product}
+use Rattle.cyclo24.specs.Written8Products.{product}
 use Rattle.cyclo24.specs.Lowest8Laws.{product_ready, answered_by}
 use Rattle.cyclo24.proofs.lowest8.long_product.Goals as goal
 

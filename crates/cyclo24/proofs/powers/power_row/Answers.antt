@@ -1,5 +1,5 @@
 use Rattle.cyclo24.specs.Eight.{mul8}
-use Rattle.cyclo24.specs.Z24Roots.{row_is}
+use Rattle.cyclo24.specs.Z24RootsLaws.{row_is}
 use Rattle.cyclo24.proofs.powers.power_row.Goals as goal
 
 pub returns : goal.returns

@@ -1,5 +1,5 @@
 use Rattle.std.proofs.Common.{rules}
-use Rattle.cyclo24.specs.Written4.{inverse}
+use Rattle.cyclo24.specs.Written4Inverse.{inverse}
 use Rattle.cyclo24.specs.CheckedLaws.{then_ok, then_err}
 use Rattle.cyclo24.proofs.fraction4.Fraction4.written_inverse.Goals as goal
 

@@ -1,5 +1,5 @@
 use Rattle.std.proofs.Common.{rules, sym}
-use Rattle.cyclo24.specs.Written8.{from_four}
+use Rattle.cyclo24.specs.Written8Parts.{from_four}
 use Rattle.cyclo24.specs.CheckedLaws.{then_ok, then_err, answer_give}
 use Rattle.cyclo24.proofs.fraction8.Fraction8.from_four.Goals as goal
 

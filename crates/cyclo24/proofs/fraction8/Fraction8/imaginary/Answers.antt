@@ -1,6 +1,6 @@
 use Rattle.std.proofs.Common.{rules, sym}
 use Rattle.cyclo24.specs.Written4.{fraction}
-use Rattle.cyclo24.specs.Written8.{imaginary}
+use Rattle.cyclo24.specs.Written8Parts.{imaginary}
 use Rattle.cyclo24.specs.CheckedLaws.{then_ok, then_err, answer_give}
 use Rattle.cyclo24.proofs.fraction8.Fraction8.imaginary.Goals as goal
 

@@ -1,6 +1,6 @@
 use Rattle.std.proofs.Common.{rules, sym}
 use Rattle.cyclo24.specs.Written4.{fraction}
-use Rattle.cyclo24.specs.Written8.{real}
+use Rattle.cyclo24.specs.Written8Parts.{real}
 use Rattle.cyclo24.specs.CheckedLaws.{then_ok, then_err, answer_give}
 use Rattle.cyclo24.proofs.fraction8.Fraction8.real.Goals as goal
 

@@ -1,5 +1,5 @@
 use Rattle.std.proofs.Common.{rules}
-use Rattle.cyclo24.specs.Written8.{product}
+use Rattle.cyclo24.specs.Written8Products.{product}
 use Rattle.cyclo24.specs.CheckedLaws.{then_ok, then_err}
 use Rattle.cyclo24.proofs.fraction8.Fraction8.written_product.Goals as goal
 

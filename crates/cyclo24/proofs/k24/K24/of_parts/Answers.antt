@@ -1,7 +1,7 @@
 use Rattle.std.proofs.Common.{◌∙◌}
 use Rattle.std.specs.Int.RustNames.{unsigned_abs}
 use Rattle.cyclo24.specs.K24Laws.{made_low}
-use Rattle.cyclo24.specs.K24Numbers.{parts_of, parts_numbers, parts_listed, parts_positive, abs_above}
+use Rattle.cyclo24.specs.K24NumbersLaws.{parts_of, parts_numbers, parts_listed, parts_positive, abs_above}
 use Rattle.cyclo24.proofs.k24.K24.of_parts.Goals as goal
 
 pub reduced-requires-clause-positive : goal.reduced-requires-clause-positive

@@ -1,5 +1,5 @@
 use Rattle.cyclo24.specs.K24.{exact24}
-use Rattle.cyclo24.specs.K24Numbers.{ratio_value, passed_list, passed_positive}
+use Rattle.cyclo24.specs.K24NumbersLaws.{ratio_value, passed_list, passed_positive}
 use Rattle.cyclo24.proofs.k24.K24.ratio.Goals as goal
 
 pub of_parts-requires : goal.of_parts-requires

@@ -1,4 +1,4 @@
-use Rattle.cyclo24.specs.K24Numbers.{whole_narrow, one_narrow, whole_low, whole_value, passed_whole}
+use Rattle.cyclo24.specs.K24NumbersLaws.{whole_narrow, one_narrow, whole_low, whole_value, passed_whole}
 use Rattle.cyclo24.proofs.k24.K24.whole.Goals as goal
 
 pub invariant_of-result : goal.invariant_of-result

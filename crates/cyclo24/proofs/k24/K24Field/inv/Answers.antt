@@ -2,7 +2,8 @@ use Rattle.std.proofs.Common.{rules, ◌≡◌, false, refl}
 use Rattle.std.specs.Int.RustNames.{unsigned_abs}
 use Rattle.cyclo24.specs.declared.fraction4.Fraction4.{Fraction4}
 use Rattle.cyclo24.specs.ExactK24.{k24_laws}
-use Rattle.cyclo24.specs.Written4.{numbers4, numerators4, inverse, upright}
+use Rattle.cyclo24.specs.Written4.{numbers4, numerators4}
+use Rattle.cyclo24.specs.Written4Inverse.{inverse, upright}
 use Rattle.cyclo24.specs.Lowest4.{IsAnswered4}
 use Rattle.cyclo24.specs.K24Laws.{exact_of, IsLow, made_low, made_value, low_positive, size_positive, inverse24}
 use Rattle.cyclo24.proofs.k24.K24Field.inv.Goals as goal

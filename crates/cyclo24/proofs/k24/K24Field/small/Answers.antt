@@ -1,5 +1,5 @@
-use Rattle.cyclo24.specs.K24Numbers.{whole_narrow, one_narrow, whole_low, whole_value}
-use Rattle.cyclo24.specs.SmallNumbers.{byte_passed}
+use Rattle.cyclo24.specs.K24NumbersLaws.{whole_narrow, one_narrow, whole_low, whole_value}
+use Rattle.cyclo24.specs.SmallNumbersLaws.{byte_passed}
 use Rattle.cyclo24.proofs.k24.K24Field.small.Goals as goal
 
 pub invariant_of-result : goal.invariant_of-result

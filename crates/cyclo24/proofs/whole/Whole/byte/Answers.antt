@@ -1,4 +1,4 @@
-use Rattle.cyclo24.specs.SmallNumbers.{byte_narrow}
+use Rattle.cyclo24.specs.SmallNumbersLaws.{byte_narrow}
 use Rattle.cyclo24.proofs.whole.Whole.byte.Goals as goal
 
 pub returns-clause-narrow : goal.returns-clause-narrow

@@ -1,8 +1,9 @@
 use Rattle.std.proofs.Common.{rules, ◌∙◌, sym}
 use Rattle.cyclo24.specs.CheckedLaws.{answer_ok, answer_err}
-use Rattle.cyclo24.specs.Written8.{conjugate}
+use Rattle.cyclo24.specs.Written8Parts.{conjugate}
 use Rattle.cyclo24.specs.ExactZ24.{conj}
-use Rattle.cyclo24.specs.Z24Calls.{exact_of8, made_low8, made_value8, wide_ok, conj_ready, conj_z24}
+use Rattle.cyclo24.specs.Z24Calls.{exact_of8}
+use Rattle.cyclo24.specs.Z24CallsLaws.{made_low8, made_value8, wide_ok, conj_ready, conj_z24}
 use Rattle.cyclo24.proofs.z24.Z24.conj.Goals as goal
 
 pub returns-in_err-conjugate-clause-wide : goal.returns-in_err-conjugate-clause-wide

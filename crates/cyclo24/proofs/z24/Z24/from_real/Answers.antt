@@ -1,8 +1,9 @@
 use Rattle.std.proofs.Common.{rules, ◌∙◌, sym}
 use Rattle.cyclo24.specs.CheckedLaws.{answer_ok, answer_err}
-use Rattle.cyclo24.specs.Written8.{from_four}
+use Rattle.cyclo24.specs.Written8Parts.{from_four}
 use Rattle.cyclo24.specs.ExactZ24.{from_real}
-use Rattle.cyclo24.specs.Z24Calls.{exact_of4, made_low8, made_value8, wide_ok, from_real_ready, from_real_z24}
+use Rattle.cyclo24.specs.Z24Calls.{exact_of4}
+use Rattle.cyclo24.specs.Z24CallsLaws.{made_low8, made_value8, wide_ok, from_real_ready, from_real_z24}
 use Rattle.cyclo24.proofs.z24.Z24.from_real.Goals as goal
 
 pub returns-in_err-powers-clause-wide : goal.returns-in_err-powers-clause-wide

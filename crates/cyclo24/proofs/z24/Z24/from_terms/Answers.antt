@@ -3,8 +3,8 @@ use Rattle.cyclo24.specs.declared.whole.Whole.{Whole}
 use Rattle.cyclo24.specs.CheckedLaws.{below_wide}
 use Rattle.cyclo24.specs.Listed.{is_positive}
 use Rattle.cyclo24.specs.Terms.{terms_value}
-use Rattle.cyclo24.specs.TermsValues.{terms_reduced, small_sums}
-use Rattle.cyclo24.specs.Z24Calls.{made_low8, made_value8}
+use Rattle.cyclo24.specs.TermsValuesLaws.{terms_reduced, small_sums}
+use Rattle.cyclo24.specs.Z24CallsLaws.{made_low8, made_value8}
 use Rattle.cyclo24.proofs.z24.Z24.from_terms.Goals as goal
 
 pub reduced-requires-clause-narrow : goal.reduced-requires-clause-narrow

@@ -1,8 +1,9 @@
 use Rattle.std.proofs.Common.{rules, ◌∙◌, sym}
 use Rattle.cyclo24.specs.CheckedLaws.{answer_ok, answer_err}
-use Rattle.cyclo24.specs.Written8.{imaginary}
+use Rattle.cyclo24.specs.Written8Parts.{imaginary}
 use Rattle.cyclo24.specs.ExactZ24.{imag_part}
-use Rattle.cyclo24.specs.Z24Calls.{exact_of8, made_low4, made_value4, wide_ok, imag_ready, imag_z24}
+use Rattle.cyclo24.specs.Z24Calls.{exact_of8}
+use Rattle.cyclo24.specs.Z24CallsLaws.{made_low4, made_value4, wide_ok, imag_ready, imag_z24}
 use Rattle.cyclo24.proofs.z24.Z24.imag_part.Goals as goal
 
 pub returns-in_err-part-clause-wide : goal.returns-in_err-part-clause-wide

@@ -4,8 +4,8 @@ use Rattle.cyclo24.specs.CheckedLaws.{below_wide}
 use Rattle.cyclo24.specs.Listed.{is_positive}
 use Rattle.cyclo24.specs.ExactZ24.{power}
 use Rattle.cyclo24.specs.TermsLaws.{at_most}
-use Rattle.cyclo24.specs.TermsValues.{root_reduced, small_sums}
-use Rattle.cyclo24.specs.Z24Calls.{made_low8, made_value8}
+use Rattle.cyclo24.specs.TermsValuesLaws.{root_reduced, small_sums}
+use Rattle.cyclo24.specs.Z24CallsLaws.{made_low8, made_value8}
 use Rattle.cyclo24.proofs.z24.Z24.root.Goals as goal
 
 pub with_row-fraction-requires-clause-sum : goal.with_row-fraction-requires-clause-sum

@@ -3,7 +3,8 @@ use Rattle.cyclo24.specs.declared.fraction8.Fraction8.{Fraction8}
 use Rattle.cyclo24.specs.ExactZ24.{z24_laws}
 use Rattle.cyclo24.specs.Written8.{numbers8, sum}
 use Rattle.cyclo24.specs.Lowest8Laws.{IsAnswer}
-use Rattle.cyclo24.specs.Z24Calls.{IsLow8, exact_of8, low_positive8, made_low8, made_value8, wide_ok, sum_z24}
+use Rattle.cyclo24.specs.Z24Calls.{IsLow8, exact_of8}
+use Rattle.cyclo24.specs.Z24CallsLaws.{low_positive8, made_low8, made_value8, wide_ok, sum_z24}
 use Rattle.cyclo24.proofs.z24.Z24Field.add.Goals as goal
 
 -- an answer is the exact result

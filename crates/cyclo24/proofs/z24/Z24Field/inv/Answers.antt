@@ -3,7 +3,8 @@ use Rattle.std.specs.Prelude.{IfOk, IsErr, IsTrue, ◌↔◌, refl}
 use Rattle.cyclo24.specs.Z24.{exact_z24}
 use Rattle.cyclo24.specs.K24.{exact24}
 use Rattle.cyclo24.specs.ExactZ24.{ExactZ24}
-use Rattle.cyclo24.specs.Z24Inverse.{IsSteps, wide_square, wide_over, wide_factor, wide_last, square_step, value_step}
+use Rattle.cyclo24.specs.Z24Inverse.{IsSteps}
+use Rattle.cyclo24.specs.Z24InverseLaws.{wide_square, wide_over, wide_factor, wide_last, square_step, value_step}
 use Rattle.cyclo24.proofs.z24.Z24Field.inv.Goals as goal
 
 pub returns-in_err-square-clause-wide : goal.returns-in_err-square-clause-wide

@@ -1,5 +1,6 @@
 use Rattle.cyclo24.specs.ExactZ24.{z24_laws}
-use Rattle.cyclo24.specs.Z24Calls.{exact_of8, made_low8, made_value8, negated_z24, negated_narrow8}
+use Rattle.cyclo24.specs.Z24Calls.{exact_of8}
+use Rattle.cyclo24.specs.Z24CallsLaws.{made_low8, made_value8, negated_z24, negated_narrow8}
 use Rattle.cyclo24.proofs.z24.Z24Field.neg.Goals as goal
 
 pub invariant_of-result : goal.invariant_of-result

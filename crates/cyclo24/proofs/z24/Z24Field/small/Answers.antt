@@ -1,4 +1,4 @@
-use Rattle.cyclo24.specs.SmallNumbers.{byte_passed, whole_narrow8, whole_low8, whole_value8}
+use Rattle.cyclo24.specs.SmallNumbersLaws.{byte_passed, whole_narrow8, whole_low8, whole_value8}
 use Rattle.cyclo24.proofs.z24.Z24Field.small.Goals as goal
 
 pub invariant_of-result : goal.invariant_of-result

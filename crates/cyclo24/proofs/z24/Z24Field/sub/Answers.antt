@@ -4,7 +4,7 @@ use Rattle.cyclo24.specs.declared.fraction8.Fraction8.{Fraction8}
 use Rattle.cyclo24.specs.Checked.{any_wide}
 use Rattle.cyclo24.specs.Written8.{fraction8_of, sum, negated}
 use Rattle.cyclo24.specs.ExactZ24.{ExactZ24}
-use Rattle.cyclo24.specs.Z24Calls.{negated_z24}
+use Rattle.cyclo24.specs.Z24CallsLaws.{negated_z24}
 use Rattle.cyclo24.proofs.z24.Z24Field.sub.Goals as goal
 
 pub returns-clause-wide : goal.returns-clause-wide

@@ -1,6 +1,7 @@
 use Rattle.std.proofs.Common.{arith}
 use Rattle.cyclo24.specs.ExactZ24.{z24_laws}
-use Rattle.cyclo24.specs.Z24Calls.{made_low8, made_value8, small, small_narrow, zero_z24}
+use Rattle.cyclo24.specs.Z24Calls.{small}
+use Rattle.cyclo24.specs.Z24CallsLaws.{made_low8, made_value8, small_narrow, zero_z24}
 use Rattle.cyclo24.proofs.z24.Z24Field.zero.Goals as goal
 
 pub invariant_of-result : goal.invariant_of-result

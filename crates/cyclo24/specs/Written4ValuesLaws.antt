@@ -14,7 +14,8 @@ use Rattle.cyclo24.specs.Four as Fours
 use Rattle.cyclo24.specs.FourNorm.{list4}
 use Rattle.cyclo24.specs.Checked.{Checked, any_wide, is_wide, then, give, times, term, product_of, sum_of, sum_from}
 use Rattle.cyclo24.specs.CheckedLaws.{then_narrow, written_narrow, sum_of_narrow}
-use Rattle.cyclo24.specs.Written4.{numerators4, four_of, IsNarrow4, fraction, product0, product1, product2, product3, product, joined, sum_over, norm_u, norm_v, norm, multiple, inverse_over, inverse}
+use Rattle.cyclo24.specs.Written4.{numerators4, four_of, IsNarrow4, fraction, product0, product1, product2, product3, product, joined, sum_over}
+use Rattle.cyclo24.specs.Written4Inverse.{norm_u, norm_v, norm, multiple, inverse_over, inverse}
 
 -- an answered number is narrow
 abbrev IsKept : Checked Whole → Type 0
@@ -38,8 +39,6 @@ fraction_narrow c0 c1 c2 c3 d k0 k1 k2 k3 kd e =
 
 fraction_last : (c0 c1 c2 c3 d : Checked Whole) → any_wide (fraction c0 c1 c2 c3 d).written ≡ false → any_wide d.written ≡ false
 fraction_last c0 c1 c2 c3 d e = (fraction_parts c0 c1 c2 c3 d e).4
-
--- products
 
 kept0 : (a b : Fraction4) → IsKept (product0 a b)
 unfolding product0
@@ -87,8 +86,6 @@ product_value a b =
       ap (λ (r : Fraction4). r.d.n) v,
     )
 
--- sums
-
 joined_kept : (x p f y q : Whole) → IsKept (joined x p f y q)
 unfolding joined
 joined_kept x p f y q = sum_of_narrow _
@@ -112,8 +109,6 @@ sum_value f a q b p =
       ap numerators4 v ∙ (λ i. joined_value a.a0 q f b.a0 p i ∷ joined_value a.a1 q f b.a1 p i ∷ joined_value a.a2 q f b.a2 p i ∷ joined_value a.a3 q f b.a3 p i ∷ []),
       ap (λ (r : Fraction4). r.d.n) v,
     )
-
--- inverses
 
 multiple_kept : (d : Whole) (x y : Product) → IsKept (multiple d x y)
 unfolding multiple then

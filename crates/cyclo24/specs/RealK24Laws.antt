@@ -17,7 +17,8 @@ use Rattle.cyclo24.specs.Carry.{carried-real}
 use Rattle.cyclo24.specs.ListedLaws.{listed}
 use Rattle.cyclo24.specs.ExactK24.{k24_laws}
 use Rattle.cyclo24.specs.FourLaws.{same4, scaled}
-use Rattle.cyclo24.specs.FourNorm.{zero_from_abs, abs_square, whole4, four, four_is}
+use Rattle.cyclo24.specs.FourNorm.{whole4, four}
+use Rattle.cyclo24.specs.FourNormLaws.{zero_from_abs, abs_square, four_is}
 use Rattle.cyclo24.specs.FractionLaws.{fractions, is_self, is_times, is_sum, times, sum, zero_top}
 
 abbrev Fraction24 : Type 0

@@ -8,14 +8,16 @@ use Rattle.std.specs.Int.{w8, w128}
 use Rattle.std.proofs.lemmas.Int.{to_z-of_z}
 use Rattle.cyclo24.specs.declared.whole.Whole.{Whole}
 use Rattle.cyclo24.specs.declared.fraction8.Fraction8.{Fraction8}
-use Rattle.cyclo24.specs.EightNorm.{whole8, eight, eight_is}
+use Rattle.cyclo24.specs.EightNorm.{whole8, eight}
+use Rattle.cyclo24.specs.EightNormLaws.{eight_is}
 use Rattle.cyclo24.specs.ExactNumerals.{ones-is, neg_ones-is}
 use Rattle.cyclo24.specs.Numerals.{of_whole}
 use Rattle.cyclo24.specs.Checked.{is_wide}
 use Rattle.cyclo24.specs.CheckedLaws.{below_wide, fits_from_narrow}
 use Rattle.cyclo24.specs.Written8.{numbers8, IsNarrow8, num}
 use Rattle.cyclo24.specs.ExactZ24.{z24_laws}
-use Rattle.cyclo24.specs.Z24Calls.{IsLow8, exact_of8, made_low8, made_value8}
+use Rattle.cyclo24.specs.Z24Calls.{IsLow8, exact_of8}
+use Rattle.cyclo24.specs.Z24CallsLaws.{made_low8, made_value8}
 
 narrow8 : (z : ℤ) → FitsSigned w8 z → is_wide z ≡ false
 narrow8 (pos n) h = below_wide (pos n) (le_trans h.sfits (lit≤ tt))

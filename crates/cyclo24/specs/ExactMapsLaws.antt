@@ -15,7 +15,7 @@ use Rattle.cyclo24.specs.CommonLaws.{content_of_is}
 use Rattle.cyclo24.specs.Gcd.{lowest_terms}
 use Rattle.cyclo24.specs.Listed.{is_exact, numerators, denominator}
 use Rattle.cyclo24.specs.ListedLaws.{exact_laws, listed, listed-lower, exact-lower, from-top, from-low}
-use Rattle.cyclo24.specs.FractionMaps.{IsLinear, mapped, mapped-sum, mapped-times, mapped-mapped, mapped-same, mapped-itself, mapped-lower, sum-mapped, mapped-zero, times-member, times-lower, sum-lower, minus-lower, times-low}
+use Rattle.cyclo24.specs.FractionMapsLaws.{IsLinear, mapped, mapped-sum, mapped-times, mapped-mapped, mapped-same, mapped-itself, mapped-lower, sum-mapped, mapped-zero, times-member, times-lower, sum-lower, minus-lower, times-low}
 
 module _ {R S : Type 0} (o : Ops R) (m : Numerators o) (h : IsNumerators o m) (o' : Ops S) (m' : Numerators o') (h' : IsNumerators o' m') where
   fraction_map : (R → S) → (k : ℕ) → 0 < k → Fraction (content_of m) → Fraction (content_of m')

@@ -11,12 +11,15 @@ use Rattle.cyclo24.specs.declared.fraction8.High.{High}
 use Rattle.algebra.specs.Whole.{whole}
 use Rattle.algebra.specs.WholeLaws.{add_zeroℤ}
 use Rattle.cyclo24.specs.FourNorm.{list4}
-use Rattle.cyclo24.specs.Eight.{mul8, conj8, re8, im8, real8, s0, s1, s2, s3, s4, s5, s6, s7, s8, s9, s10, s11, s12, s13, s14}
+use Rattle.cyclo24.specs.Eight.{mul8, s0, s1, s2, s3, s4, s5, s6, s7, s8, s9, s10, s11, s12, s13, s14}
+use Rattle.cyclo24.specs.EightParts.{conj8, re8, im8, real8}
 use Rattle.cyclo24.specs.EightNorm.{list8}
 use Rattle.cyclo24.specs.Checked.{Checked, any_wide, is_wide, then, times, plus}
 use Rattle.cyclo24.specs.CheckedLaws.{then_narrow, written_narrow, below_wide}
 use Rattle.cyclo24.specs.Written4.{numerators4, four_of, IsNarrow4, fraction}
-use Rattle.cyclo24.specs.Written8.{numerators8, eight_of, IsNarrow8, num, dot_from, dot, high_sums, less_two, and_one, fraction8, low, product, joined, sum_over, signed, conjugate, real, imaginary, from_four}
+use Rattle.cyclo24.specs.Written8.{numerators8, eight_of, IsNarrow8, num, dot_from, dot, fraction8, joined, sum_over}
+use Rattle.cyclo24.specs.Written8Products.{high_sums, less_two, and_one, low, product}
+use Rattle.cyclo24.specs.Written8Parts.{signed, conjugate, real, imaginary, from_four}
 
 -- an answered number is narrow
 abbrev IsKept : Checked Whole → Type 0
@@ -93,8 +96,6 @@ fraction_narrow : (c0 c1 c2 c3 d : Checked Whole) → IsKept c0 → IsKept c1 �
 fraction_narrow c0 c1 c2 c3 d k0 k1 k2 k3 kd e =
     let h = fraction_parts c0 c1 c2 c3 d e in
     subst IsNarrow4 (sym (fraction_value c0 c1 c2 c3 d)) (record { narrow0 = k0 h.0; narrow1 = k1 h.1; narrow2 = k2 h.2; narrow3 = k3 h.3; narrow = kd h.4 })
-
--- products
 
 value0 : (a b : Fraction8) → (dot (a.c0 ∷ []) (b.c0 ∷ [])).value.n ≡ s0 whole (eight_of a) (eight_of b)
 unfolding dot_from then
@@ -247,8 +248,6 @@ pub product_narrow : (a b : Fraction8) → any_wide (product a b).written ≡ fa
 unfolding product then
 product_narrow a b e = low_narrow a b (high_sums a b).value (then_narrow (high_sums a b) (λ h. low a b h) e).1
 
--- sums
-
 joined_value : (x p y q : Whole) → (joined x p y q).value.n ≡ p.n *ℤ x.n +ℤ q.n *ℤ y.n
 unfolding dot_from then
 joined_value x p y q =
@@ -273,8 +272,6 @@ unfolding sum_over
 sum_narrow a q b p e =
     fraction8_narrow (joined a.c0 q b.c0 p) (joined a.c1 q b.c1 p) (joined a.c2 q b.c2 p) (joined a.c3 q b.c3 p) (joined a.c4 q b.c4 p) (joined a.c5 q b.c5 p) (joined a.c6 q b.c6 p) (joined a.c7 q b.c7 p) (times a.d q)
     (joined_kept a.c0 q b.c0 p) (joined_kept a.c1 q b.c1 p) (joined_kept a.c2 q b.c2 p) (joined_kept a.c3 q b.c3 p) (joined_kept a.c4 q b.c4 p) (joined_kept a.c5 q b.c5 p) (joined_kept a.c6 q b.c6 p) (joined_kept a.c7 q b.c7 p) (times_kept a.d q) e
-
--- conjugates
 
 minus_one : (x : ℤ) → negsuc 0 *ℤ x ≡ neg_ℤ x
 minus_one x = omega (arith, ints)
@@ -316,8 +313,6 @@ conjugate_narrow a k e =
       narrow7 = dot_kept (num (negsuc 0) ∷ num (negsuc 0) ∷ []) (a.c1 ∷ a.c5 ∷ []) h.4;
       narrow = k.narrow;
     }
-
--- parts
 
 first_real : (x y : ℤ) → pos 0 +ℤ pos 4 *ℤ x +ℤ pos 2 *ℤ y ≡ pos 4 *ℤ x +ℤ pos 2 *ℤ y
 first_real x y = omega (arith, ints)
@@ -368,8 +363,6 @@ imaginary_narrow a e =
     fraction_narrow (signed (pos 2) a.c2 (pos 4) a.c6) (dot f (a.c1 ∷ a.c3 ∷ a.c5 ∷ a.c7 ∷ [])) (times (num (pos 2)) a.c4) (dot g (a.c1 ∷ a.c5 ∷ a.c7 ∷ [])) (times (num (pos 4)) a.d)
     (dot_kept (num (pos 2) ∷ num (pos 4) ∷ []) (a.c2 ∷ a.c6 ∷ [])) (dot_kept f (a.c1 ∷ a.c3 ∷ a.c5 ∷ a.c7 ∷ [])) (times_kept (num (pos 2)) a.c4) (dot_kept g (a.c1 ∷ a.c5 ∷ a.c7 ∷ []))
     (times_kept (num (pos 4)) a.d) e
-
--- real numbers
 
 difference : (x y : ℤ) → pos 0 +ℤ negsuc 0 *ℤ x +ℤ pos 1 *ℤ y ≡ neg_ℤ x +ℤ y
 difference x y = omega (arith, ints)

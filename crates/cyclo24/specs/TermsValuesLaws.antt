@@ -7,7 +7,6 @@ use Rattle.std.proofs.Common.{◌≡◌, ◌<◌, ◌≤◌, ◌^◌, ◌*◌, �
 use Rattle.std.specs.List.{All}
 use Rattle.std.specs.Int.RustNames.{unsigned_abs}
 use Rattle.iso_text.specs.declared.numbers.Term.{Term}
-use Rattle.iso_text.specs.declared.numbers.Unit.{Unit as TermUnit}
 use Rattle.iso_text.specs.declared.numbers.Unit.TheVariants.{One, Z, I, R2, R3, R6}
 use Rattle.cyclo24.specs.FieldOn.{FieldOn, ones}
 use Rattle.cyclo24.specs.FieldLaws.{times-nought, unit-times}
@@ -19,10 +18,13 @@ use Rattle.cyclo24.specs.NumeralLaws.{ring_of_is, of-times}
 use Rattle.algebra.specs.Solve.{V, Mul, at}
 use Rattle.algebra.specs.SolveLaws.{solve}
 use Rattle.cyclo24.specs.Four.{Four}
-use Rattle.cyclo24.specs.FourNorm.{whole4, four, four_is}
-use Rattle.cyclo24.specs.Eight.{Eight, add8, num8, real8}
+use Rattle.cyclo24.specs.FourNorm.{whole4, four}
+use Rattle.cyclo24.specs.FourNormLaws.{four_is}
+use Rattle.cyclo24.specs.Eight.{Eight, add8, num8}
+use Rattle.cyclo24.specs.EightParts.{real8}
 use Rattle.cyclo24.specs.EightLaws.{scaled8}
-use Rattle.cyclo24.specs.EightNorm.{whole8, whole8_ring, eight, eight_is, list8}
+use Rattle.cyclo24.specs.EightNorm.{whole8, eight, list8}
+use Rattle.cyclo24.specs.EightNormLaws.{whole8_ring, eight_is}
 use Rattle.cyclo24.specs.FractionLaws.{lower}
 use Rattle.cyclo24.specs.Numerators.{content_of}
 use Rattle.cyclo24.specs.CommonLaws.{content_of_is}
@@ -32,11 +34,12 @@ use Rattle.cyclo24.specs.declared.fraction8.Fraction8.{Fraction8}
 use Rattle.cyclo24.specs.Checked.{is_wide}
 use Rattle.cyclo24.specs.CheckedLaws.{below_wide}
 use Rattle.cyclo24.specs.Written8.{numbers8, numerators8, eight_of, IsNarrow8}
-use Rattle.cyclo24.specs.ExactMaps.{exact_member, exact_member-plus, exact_member-times, exact_member-neg, exact_member-one, exact_member-zero, exact_member-low}
+use Rattle.cyclo24.specs.ExactMapsLaws.{exact_member, exact_member-plus, exact_member-times, exact_member-neg, exact_member-one, exact_member-zero, exact_member-low}
 use Rattle.cyclo24.specs.RootsK24.{r2, r3, r6}
 use Rattle.cyclo24.specs.ExactK24.{Exact24}
 use Rattle.cyclo24.specs.ExactZ24.{ExactZ24, z24_laws, power, from_real}
-use Rattle.cyclo24.specs.Z24Roots.{member, power8, power_is, power-6, from_real-member, power8-one, four2, four3, four6, r2_member, r3_member, r6_member}
+use Rattle.cyclo24.specs.Z24Roots.{member, power8, four2, four3, four6}
+use Rattle.cyclo24.specs.Z24RootsLaws.{power_is, power-6, from_real-member, power8-one, r2_member, r3_member, r6_member}
 use Rattle.iso_text.specs.WordRanges.{IsTerm}
 use Rattle.cyclo24.specs.Terms.{unit_value, ratio_value, term_value, terms_value, unit8, scale8, row8, factor_of, term8, terms8, AreAtMost}
 
