@@ -20,7 +20,8 @@ impl Model for Name {
 
     ghost Value = { List ℕ };
 
-    ghost use Rattle.iso_text.specs.NameView.{view_of, IsPadded, inverse_of, inverse_of-view_of};
+    ghost use Rattle.iso_text.specs.NameView.{view_of, IsPadded, inverse_of};
+    ghost use Rattle.iso_text.specs.NameViewLaws.{inverse_of-view_of};
 
     ghost view = { view_of };
 
