@@ -5,7 +5,6 @@ use Rattle.std.specs.List.{cons_option}
 use Rattle.std.proofs.lemmas.Bool.{and_parts}
 use Rattle.algebra.specs.SolveLaws.{by_test}
 use Rattle.iso_text.specs.Operations.{coefficients}
-use Rattle.iso_text.specs.Spellings.{SpellsWhole}
 use Rattle.iso_text.specs.SumSpellings.{SpellsSum}
 use Rattle.iso_text.specs.OperationSpellings.{SpellsShift, SpellsPart, SpellsRow, in_x, in_y, in_z, in_shift}
 use Rattle.iso_text.specs.declared.operation_words.Part.{Part}

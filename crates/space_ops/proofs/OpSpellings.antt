@@ -1,6 +1,5 @@
 -- The printed text of an operation is one that a file's words read as this operation.
-use Rattle.std.proofs.Common.{◌≡◌, ◌∙◌, refl, sym, subst, ℕ, ℤ, pos, List, [], ◌∷◌, ◌++◌, append_assoc, length, codes, arith}
-use Rattle.iso_text.specs.Operations.{rows}
+use Rattle.std.proofs.Common.{◌≡◌, sym, subst, ℕ, ℤ, pos, List, [], ◌∷◌, ◌++◌, append_assoc, length, codes, arith}
 use Rattle.iso_text.specs.OperationSpellings.{SpellsOperation}
 use Rattle.iso_text.specs.WordRanges.{IsWithin, AreThree}
 use Rattle.space_ops.specs.declared.op.Op.{Op}
@@ -52,9 +51,9 @@ rows-spelled : (a b c : List ℤ) (shift : List ℤ) → AreThree (AreThree (IsW
 rows-spelled a b c shift rot near =
     by_three (λ ts. AreThree (IsWithin 120) ts → SpellsOperation (text_of (op_with (a ∷ b ∷ c ∷ []) ts)) (op_text_of (op_with (a ∷ b ∷ c ∷ []) ts)))
     (λ t u v each. three-spelled a b c t u v
-        (row-spelled a t (rot.each 0 [] (omega arith)) (each.each 0 (pos 0) (omega arith)))
-        (row-spelled b u (rot.each 1 [] (omega arith)) (each.each 1 (pos 0) (omega arith)))
-        (row-spelled c v (rot.each 2 [] (omega arith)) (each.each 2 (pos 0) (omega arith))))
+    (row-spelled a t (rot.each 0 [] (omega arith)) (each.each 0 (pos 0) (omega arith)))
+    (row-spelled b u (rot.each 1 [] (omega arith)) (each.each 1 (pos 0) (omega arith)))
+    (row-spelled c v (rot.each 2 [] (omega arith)) (each.each 2 (pos 0) (omega arith))))
     shift near.count near
 
 pub text_of-spelled : (op : Op) → IsPrintable op → SpellsOperation (text_of op) (op_text_of op)

@@ -1,5 +1,5 @@
 -- The terms of a coordinate as they are printed, one behind the other, are a sum of a file's words.
-use Rattle.std.proofs.Common.{◌≡◌, ◌∙◌, refl, sym, ap, subst, ℕ, zero, suc, ◌/◌, ◌<◌, ◌≤◌, ℤ, pos, negsuc, Bool, true, false, ◌&&◌, List, [], ◌∷◌, ◌++◌, append_assoc, append-nil, codes, unsigned_abs, if◌then◌else◌, inl, inr, arith}
+use Rattle.std.proofs.Common.{◌≡◌, ◌∙◌, refl, sym, ap, subst, ℕ, zero, suc, ◌/◌, ◌<◌, ◌≤◌, ℤ, pos, negsuc, Bool, true, false, ◌&&◌, List, [], ◌∷◌, ◌++◌, append_assoc, append-nil, unsigned_abs, if◌then◌else◌, inl, inr, arith}
 use Rattle.std.proofs.lemmas.Bool.Decides.{Decides-int_eq}
 use Rattle.std.proofs.lemmas.Fmt.{decimal_digit}
 use Rattle.iso_text.specs.Fractions.{signed}
@@ -150,6 +150,6 @@ translation-spelled first false t e near =
     let g = common_with_twelve (unsigned_abs t) in
     let f = fraction_text (unsigned_abs t / g) (12 / g) in
     let shift : SpellsShift (is_negative t) f (Shift t) =
-        subst (λ z. SpellsShift (is_negative t) f (Shift z)) (signed-back t) (shift-spelled (is_negative t) (unsigned_abs t) (abs_of_within 120 t near)) in
+    subst (λ z. SpellsShift (is_negative t) f (Shift z)) (signed-back t) (shift-spelled (is_negative t) (unsigned_abs t) (abs_of_within 120 t near)) in
     subst (λ x. SpellsParts first x (Shift t ∷ [])) (sym (some_translation t e))
     (signed-spelled first (is_negative t) (sign_text false t) f [] (Shift t) [] (written_sign-signs first t) (inr shift) refl)
