@@ -3,7 +3,7 @@ use Rattle.std.proofs.Common.{◌≡◌, subst, FitsSigned, w8, w32, refl, ◌�
 use Rattle.std.proofs.lemmas.Int.{ints, unsigned_abs-mul, to_z-of_z, fits_signed_from_abs}
 use Rattle.space_ops.specs.WithinLaws.{abs_of_within, shift_more, within_product}
 use Rattle.space_ops.proofs.Passed.{passed, passed_long}
-use Rattle.space_ops.specs.Op.{IsWithin, IsShiftWithin, IsRotationWithin, IsSmallRotation, number_at, row_at}
+use Rattle.space_ops.specs.Op.{IsWithin, IsRotationWithin, IsSmallRotation, row_at}
 
 pub rotation_more : (rot : List (List ℤ)) → IsSmallRotation rot → IsRotationWithin 18 rot
 rotation_more rot h = (shift_more 3 18 (row_at rot 0) (omega arith) h.0, shift_more 3 18 (row_at rot 1) (omega arith) h.1, shift_more 3 18 (row_at rot 2) (omega arith) h.2)

@@ -1,12 +1,16 @@
 pub mod Bounds
 pub mod ClosedLemmas
 pub mod ClosingLemmas
+pub mod CoordinateSpellings
 pub mod InverseLemmas
 pub mod KeepLemmas
 pub mod LeastLemmas
 pub mod MemberLemmas
+pub mod OpSpellings
 pub mod OrderLemmas
+pub mod PartSpellings
 pub mod Passed
 pub mod ReducedLemmas
+pub mod ShiftSpellings
 pub mod StepLemmas
 pub mod TextLemmas

@@ -1,6 +1,6 @@
 -- Lattice vectors are a group under addition.
 --
--- zero-lattice, sum-lattice, minus-lattice, difference-lattice: the zero vector, sums, negatives and differences
+-- zero-lattice, sum-lattice, minus-lattice: the zero vector, sums and negatives
 -- centring-lattice: centring vectors
 -- edges-lattice: a lattice vector and whole cell edges
 -- differ-refl, differ-sym, differ-trans: translations that differ by a lattice vector
@@ -134,9 +134,6 @@ minus-lattice lattice t h =
     let c = centring_at lattice h.centring in
     subst (IsLatticeVector lattice) (sym (ap (minus_vector whole) h.is ∙ minus_split c h.edges))
     (edges-lattice lattice (minus_vector whole c) (minus_vector whole h.edges) (minus lattice h.centring h.listed))
-
-pub difference-lattice : (lattice : Lattice) (s t : Vector ℤ) → IsLatticeVector lattice s → IsLatticeVector lattice t → IsLatticeVector lattice (vector_difference s t)
-difference-lattice lattice s t h k = sum-lattice lattice s (minus_vector whole t) h (minus-lattice lattice t k)
 
 -- a matrix that takes each centring vector into the lattice takes each lattice vector into it
 pub image-lattice : (lattice : Lattice) (r : Matrix ℤ) (t : Vector ℤ)

@@ -10,9 +10,10 @@
 -- IsUnimodular a: the determinant of a is 1 or -1
 -- inverse_of op: {R^-1 | -R^-1 t}, where R is unimodular
 -- identity_op: {E|0}
-use Rattle.std.specs.Prelude.{◌≡◌, ℕ, ℤ, pos, ◌+ℤ◌, ◌*ℤ◌, ◌≤ℤ◌, List, [], ◌∷◌, slice_index_or}
+use Rattle.std.specs.Prelude.{◌≡◌, ℕ, ℤ, pos, ◌*ℤ◌, List, [], ◌∷◌, slice_index_or}
 use Rattle.space_ops.specs.declared.op.Op.{Op}
 use Rattle.algebra.specs.Whole.{whole}
+pub use Rattle.iso_text.specs.WordRanges.{IsWithin}
 use Rattle.space_ops.specs.Matrix.{Matrix, Vector, row_times, minor, determinant}
 use Rattle.space_ops.specs.Seitz.{Seitz, seitz_product, seitz_inverse, seitz_identity}
 
@@ -76,10 +77,7 @@ cross_product a b =
 unfoldable pub product_of : Op → Op → Op
 product_of a b = op_of (seitz_product whole (seitz_of a) (seitz_of b))
 
--- from -n to n
-abbrev pub IsWithin : ℕ → ℤ → Type 0
-IsWithin n x = (pos 0 ≤ℤ (pos n +ℤ x)) × (x ≤ℤ pos n)
-
+-- each coordinate is from -n to n
 abbrev pub IsShiftWithin : ℕ → List ℤ → Type 0
 IsShiftWithin n shift = IsWithin n (number_at shift 0) × IsWithin n (number_at shift 1) × IsWithin n (number_at shift 2)
 

@@ -4,7 +4,7 @@
 -- back-matrix, matrix-back: a unimodular matrix times its inverse is the unit matrix, from either side
 -- product_unimodular, inverse_unimodular: products and inverses of unimodular matrices are unimodular
 -- product_of-inverse_of, inverse_of-product_of: an operation times its inverse is the identity, from either side
--- product_of-shaped, inverse_of-shaped: they have three rows of three entries, and three coordinates
+-- product_of-shaped: a product has three rows of three entries, and three coordinates
 -- product_of-assoc: the product is associative
 -- seitz-back, back-seitz, seitz_product-assoc, seitz_product-identity, identity-seitz_product: the same of Seitz operations
 use Rattle.std.proofs.Common.{◌≡◌, refl, sym, ap, ◌∙◌, ℤ, pos, ◌*ℤ◌}
@@ -87,7 +87,3 @@ product_of-assoc a b c = ap op_of (seitz_product-assoc (seitz_of a) (seitz_of b)
 pub product_of-shaped : (a b : Op) → product_of a b ≡ op_of (seitz_of (product_of a b))
 unfolding product_of
 product_of-shaped a b = refl
-
-pub inverse_of-shaped : (a : Op) → inverse_of a ≡ op_of (seitz_of (inverse_of a))
-unfolding inverse_of
-inverse_of-shaped a = refl

@@ -5,8 +5,12 @@
 -- term_text is_first c letter: one letter with its sign and coefficient
 -- translation_text t: t twelfths with their sign in lowest terms, nothing for 0
 -- common_with_twelve n: the greatest common divisor of n and 12
+-- IsPrintable op: the range in which a file's words give the operation back
+-- op_text_of op: the operation as a file's words give it
 use Rattle.std.specs.Prelude.{ℕ, ◌/◌, ◌%◌, ◌==◌, ◌&&◌, if◌then◌else◌, Bool, true, false, ℤ, pos, negsuc, List, [], ◌++◌, codes, decimal, unsigned_abs}
 use Rattle.std.specs.Ordering.{int_eq}
+use Rattle.iso_text.specs.WordRanges.{IsWithin, AreThree}
+use Rattle.iso_text.specs.declared.numbers.OpText.{OpText}
 use Rattle.space_ops.specs.declared.op.Op.{Op}
 use Rattle.space_ops.specs.Op.{number_at, row_at}
 
@@ -61,3 +65,12 @@ unfoldable pub text_of : Op → List ℕ
 text_of op =
     coordinate_text (row_at op.rot 0) (number_at op.shift 0) ++ codes "," ++ coordinate_text (row_at op.rot 1) (number_at op.shift 1)
     ++ codes "," ++ coordinate_text (row_at op.rot 2) (number_at op.shift 2)
+
+-- entries from -3 to 3, and translations of at most 120 twelfths
+pub record IsPrintable (op : Op) : Type 0 where
+  pub rot : AreThree (AreThree (IsWithin 3)) op.rot
+  pub shift : AreThree (IsWithin 120) op.shift
+
+-- the same rows and twelfths
+abbrev pub op_text_of : Op → OpText
+op_text_of op = record { rows = op.rot; shift = op.shift }

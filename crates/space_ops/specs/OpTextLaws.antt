@@ -1,6 +1,6 @@
 -- What the printed text of an operation says.
 --
--- text_of-screw, text_of-edge, text_of-mixed, text_of-empty: worked examples
+-- text_of-mixed, text_of-empty: worked examples
 use Rattle.std.specs.Prelude.{◌≡◌, ℤ, pos, negsuc, List, [], ◌∷◌, codes, refl}
 use Rattle.std.proofs.Common.{arith}
 use Rattle.std.proofs.lemmas.Fmt.{decimal_digit}
@@ -12,14 +12,6 @@ row x y z = x ∷ y ∷ z ∷ []
 
 abbrev op : List ℤ → List ℤ → List ℤ → List ℤ → Op
 op a b c t = record { rot = a ∷ b ∷ c ∷ []; shift = t }
-
-pub text_of-screw : text_of (op (row (negsuc 0) (pos 1) (pos 0)) (row (negsuc 0) (pos 0) (pos 0)) (row (pos 0) (pos 0) (pos 1)) (row (pos 0) (pos 0) (pos 8))) ≡ codes "-x+y,-x,z+2/3"
-unfolding text_of coordinate_text letters_text translation_text term_text
-text_of-screw = simp (decimal_digit 2 (omega arith), decimal_digit 3 (omega arith)) refl
-
-pub text_of-edge : text_of (op (row (negsuc 0) (pos 0) (pos 0)) (row (pos 0) (negsuc 0) (pos 0)) (row (pos 0) (pos 0) (pos 1)) (row (pos 12) (pos 0) (pos 0))) ≡ codes "-x+1,-y,z"
-unfolding text_of coordinate_text letters_text translation_text term_text
-text_of-edge = simp (decimal_digit 1 (omega arith)) refl
 
 pub text_of-mixed : text_of (op (row (pos 2) (negsuc 0) (negsuc 2)) (row (pos 0) (negsuc 1) (pos 3)) (row (pos 0) (pos 0) (negsuc 0)) (row (negsuc 2) (pos 27) (negsuc 11))) ≡ codes "2x-y-3z-1/4,-2y+3z+9/4,-z-1"
 unfolding text_of coordinate_text letters_text translation_text term_text

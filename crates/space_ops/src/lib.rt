@@ -25,5 +25,5 @@ mod steps;
 
 pub use group::{Group, GroupError};
 pub use lattice::{Lattice, law_of_letters};
-pub use laws::{law_of_lists, law_of_members, law_of_operations};
+pub use laws::{law_of_lists, law_of_members, law_of_operations, law_of_texts};
 pub use op::{Op, TWELFTHS};

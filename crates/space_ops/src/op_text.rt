@@ -1,7 +1,8 @@
 // The printed text of an operation.
 ghost use Rattle.std.specs.Prelude.{◌≡◌, ℕ, ◌<◌, ◌≤◌, ◌++◌, ◌&&◌, ◌/◌, ◌==◌, if◌then◌else◌, pos, [], codes, decimal, OnOk, IfOk, unsigned_abs};
 ghost use Rattle.space_ops.specs.Op.{number_at};
-ghost use Rattle.space_ops.specs.OpText.{is_zero, sign_text, coefficient_text, term_text, common_with_twelve, fraction_text, translation_text, letters_text, coordinate_text, text_of};
+ghost use Rattle.iso_text.specs.OperationSpellings.{SpellsOperation};
+ghost use Rattle.space_ops.specs.OpText.{is_zero, sign_text, coefficient_text, term_text, common_with_twelve, fraction_text, translation_text, letters_text, coordinate_text, text_of, IsPrintable, op_text_of};
 
 use crate::op::{Op, TWELFTHS};
 use iso_text::{NoMemory, Text};
@@ -11,9 +12,11 @@ use std::alloc::Global;
 impl Op {
     /// The printed text, as `-x+y,-x,z+2/3`: for each coordinate the letters with nonzero
     /// coefficient, then the translation in lowest terms where it is not 0; `0` where there is
-    /// neither.
+    /// neither. Where the entries are from -3 to 3 and the translations at most 120 twelfths, a file
+    /// that has this text says exactly this operation.
     pub fn print(self, alloc: Global) -> Result<Text, NoMemory>
-        ensures { IfOk result (λ text. text ≡ text_of self) }
+        ensures value { IfOk result (λ text. text ≡ text_of self) }
+        ensures spelled { IsPrintable self → IfOk result (λ text. SpellsOperation text (op_text_of self)) }
     {
         let mut text = Text::new(alloc);
         push_coordinate(&mut text, self.rot[0], self.shift[0])?;
