@@ -5,7 +5,7 @@ use std::alloc::Global;
 use std::test::Fail;
 
 // Operations, some with translations outside the cell or rotations that no group has, and their texts.
-const PRINTED: [(Op, &str); 5] = [
+const PRINTED: [(Op, &str); 7] = [
     (
         Op {
             rot: [[0, -1, 0], [1, -1, 0], [0, 0, 1]],
@@ -40,6 +40,20 @@ const PRINTED: [(Op, &str); 5] = [
             shift: [0, 0, 6],
         },
         "2x-3z,0,+1/2",
+    ),
+    (
+        Op {
+            rot: [[2, -1, -3], [0, -2, 3], [0, 0, -1]],
+            shift: [-3, 27, -12],
+        },
+        "2x-y-3z-1/4,-2y+3z+9/4,-z-1",
+    ),
+    (
+        Op {
+            rot: [[0, 0, 0], [0, 0, 0], [0, 0, 0]],
+            shift: [0, 6, -6],
+        },
+        "0,+1/2,-1/2",
     ),
 ];
 

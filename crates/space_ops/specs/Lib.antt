@@ -14,8 +14,6 @@ pub mod WithinLaws
 pub mod OpLaws
 -- the printed text of an operation, as `-x+y,-x,z+2/3`
 pub mod OpText
--- what the printed text of an operation says
-pub mod OpTextLaws
 -- the lattices of the Hall symbols, by their letters and by their centring vectors in twelfths of a cell edge
 pub mod Lattice
 -- lattices and their letters belong to each other

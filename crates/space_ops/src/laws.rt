@@ -1,12 +1,13 @@
 // Laws over the definitions, as contracts of functions that do nothing.
-ghost use Rattle.std.specs.Prelude.{◌≡◌, ℤ, pos, negsuc, List, [], ◌∷◌, codes};
+ghost use Rattle.std.specs.Prelude.{◌≡◌, ℤ, List};
+ghost use Rattle.iso_text.specs.OperationSpellings.{SpellsOperation};
 ghost use Rattle.space_ops.specs.declared.op.Op.{Op};
 ghost use Rattle.space_ops.specs.declared.lattice.Lattice.{Lattice};
 ghost use Rattle.space_ops.specs.Seitz.{Seitz};
 ghost use Rattle.space_ops.specs.Group.{Parent, IsListOf, IsParentGroup};
 ghost use Rattle.space_ops.specs.Member.{IsMemberOf, IsListedMember, AreMembers};
 ghost use Rattle.space_ops.specs.OpGroup.{HaveProducts, HaveDeterminants};
-ghost use Rattle.space_ops.specs.OpText.{text_of};
+ghost use Rattle.space_ops.specs.OpText.{IsPrintable, op_text_of, text_of};
 
 /// Products of operations are associative, with {E|0} and with the inverses of operations of
 /// determinant 1 or -1; the determinant of a product is the product of the determinants.
@@ -28,9 +29,7 @@ pub fn law_of_lists()
     ensures { (generators : List Op) (lattice : Lattice) (xs ys : List Op) → IsListOf generators lattice xs → IsListOf generators lattice ys → xs ≡ ys }
 {}
 
-/// Printed texts, by example: coefficients of 2 and 3, translations below 0 and past a cell edge, and
-/// coordinates with no letter.
+/// The printed text of an operation in the file's ranges spells it.
 pub fn law_of_texts()
-    ensures mixed { text_of (record { rot = (pos 2 ∷ negsuc 0 ∷ negsuc 2 ∷ []) ∷ (pos 0 ∷ negsuc 1 ∷ pos 3 ∷ []) ∷ (pos 0 ∷ pos 0 ∷ negsuc 0 ∷ []) ∷ []; shift = negsuc 2 ∷ pos 27 ∷ negsuc 11 ∷ [] }) ≡ codes "2x-y-3z-1/4,-2y+3z+9/4,-z-1" }
-    ensures empty { text_of (record { rot = (pos 0 ∷ pos 0 ∷ pos 0 ∷ []) ∷ (pos 0 ∷ pos 0 ∷ pos 0 ∷ []) ∷ (pos 0 ∷ pos 0 ∷ pos 0 ∷ []) ∷ []; shift = pos 0 ∷ pos 6 ∷ negsuc 5 ∷ [] }) ≡ codes "0,+1/2,-1/2" }
+    ensures { (op : Op) → IsPrintable op → SpellsOperation (text_of op) (op_text_of op) }
 {}
