@@ -6,5 +6,6 @@ pub mod SignFileLemmas
 pub mod SignGroupLemmas
 pub mod SignListingLemmas
 pub mod SignReportLemmas
+pub mod SignUniqueLemmas
 pub mod TranslationLemmas
 pub mod UniqueLemmas

@@ -15,9 +15,8 @@ use Rattle.iso_report.specs.declared.sign_file.Sign.{Sign}
 use Rattle.iso_report.specs.declared.sign_file.Sign.TheVariants.{Plus, Minus}
 use Rattle.iso_report.specs.declared.sign_file.Symbol.{Symbol}
 use Rattle.iso_report.specs.declared.sign_file.Symbol.TheVariants.{P1, CentricP1, P2, CentricP2}
-use Rattle.iso_report.specs.declared.sign_file.SignFile.{SignFile}
 use Rattle.iso_text.specs.Lines.{line}
-use Rattle.iso_report.specs.SignFile.{AreValues, IsSignFile, operations_of, symbol_text, sign_text, mat_text, mats_text, irrep_line, irrep_lines, symbol_lines}
+use Rattle.iso_report.specs.SignFile.{SignContent, AreValues, IsSignFile, operations_of, symbol_text, sign_text, mat_text, mats_text, irrep_line, irrep_lines, symbol_lines}
 
 pub not_false : IsTrue false → ⊥
 not_false h = cc
@@ -293,11 +292,11 @@ not_values symbol ops bytes rest signs o e h bad values are =
 
 -- the file that was read is the only one there can be
 pub no_file : (bytes irrep mats name : List ℕ) (s : Symbol) → bytes ≡ symbol_lines s irrep → ((n rest : List ℕ) → irrep ≡ irrep_line n rest → is_name n ≡ true → name ≡ n) → irrep ≡ irrep_lines name mats
-    → ((values : List Sign) → AreValues s values mats → ⊥) → (f : SignFile) → IsSignFile bytes f → ⊥
+    → ((values : List Sign) → AreValues s values mats → ⊥) → (f : SignContent) → IsSignFile bytes f → ⊥
 no_file bytes irrep mats name s e only g none f h =
     let lines = symbol_lines-one s f.symbol irrep (irrep_lines f.name h.rest) (sym e ∙ h.head) in
     let same : name ≡ f.name = only f.name _ lines.1 h.name in
     let rest : mats ≡ h.rest = irrep_lines_cancel f.name mats h.rest (ap (λ n. irrep_lines n mats) (sym same) ∙ sym g ∙ lines.1) in
-    let P : Symbol → Type 0 = λ t. AreValues t f.values.items mats in
-    let Q : List ℕ → Type 0 = λ t. AreValues f.symbol f.values.items t in
-    none f.values.items (subst P (sym lines.0) (subst Q (sym rest) h.values))
+    let P : Symbol → Type 0 = λ t. AreValues t f.values mats in
+    let Q : List ℕ → Type 0 = λ t. AreValues f.symbol f.values t in
+    none f.values (subst P (sym lines.0) (subst Q (sym rest) h.values))

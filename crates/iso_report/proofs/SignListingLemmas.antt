@@ -136,59 +136,17 @@ nonzero_or (negsuc n) = inr (λ h. cc)
 nat_cmp-same : (n : ℕ) → nat_cmp n n ≡ Equal
 nat_cmp-same n = sym (nat_cmp_is n n Equal refl)
 
-module _ (ops : List Op) (values : List Sign) (size : length values ≡ length ops) (some : 0 < length ops) (same : (q a : ℕ) → q < length ops → a < length ops → conjugate (group_of ops) q a ≡ a) where
-  -- the whole line, fixed by the operations of the value 1
-  line_direction : (hs : List ℕ) → IsKernel values hs → IsDirection (action_of ops values) (direction_of 1 hs)
-  line_direction hs m = record {
-    isotropy = (
-      pos 1 ∷ [],
-      refl,
-      list-same (length ops) _ _ hs (λ q l e. fixes ops values q e (pos 1 ∷ [])) (λ q l f. fixes_one ops values q f)
-          (subst (λ n. IsRisingListOf n (λ q. slice_index_or values q Plus ≡ Plus) hs) size m),
-    );
-    equations = record {
-      wide = λ k d l. absurd (omega arith);
-      reduced = ([], none_reduced, λ k d l. absurd (omega arith));
-      exact = λ v e. (λ all q c. fixes ops values q (listed-has (length values) _ hs m q c) v, λ f i l. absurd (omega arith));
-    };
-    whole = λ q l f. has-listed (length values) _ hs m q (omega (arith, size)) (fixes_one ops values q (f (pos 1 ∷ []) refl (λ a c. fixes ops values a (listed-has (length values) _ hs m a c) (pos 1 ∷ []))));
-  }
-
-  -- the zero vector alone, fixed by all operations, where one of them has the value -1
-  zero_direction : (hs : List ℕ) (m : ℕ) → IsAll (length values) hs → m < length values → slice_index_or values m Plus ≡ Minus → IsDirection (action_of ops values) (direction_of 0 hs)
-  zero_direction hs m all n e = record {
-    isotropy = (
-      pos 0 ∷ [],
-      refl,
-      list-same (length ops) _ _ hs (λ q l e. fixes_zero ops values q) (λ q l f. tt) (subst (λ n. IsAll n hs) size all),
-    );
-    equations = record {
-      wide = all_one (λ row. length row ≡ 1) (pos 1 ∷ []) refl;
-      reduced = (0 ∷ [], zero_reduced, all_one (λ p. p < 1) 0 (omega arith));
-      exact = λ v k. exact v (coordinate v k);
-    };
-    whole = λ q l f. has-listed (length values) _ hs all q (omega (arith, size)) tt;
-  }
-    where
-      exact : (v : List ℤ) → (x : ℤ) × (v ≡ x ∷ []) → AllVanish ((pos 1 ∷ []) ∷ []) v ↔ IsInFixedSpace (action_of ops values) hs v
-      exact v (x, k) = (
-        λ h q c. let nought : x ≡ pos 0 = sym (dot_one x) ∙ ap (dot (pos 1 ∷ [])) (sym k) ∙ h 0 (omega arith) in
-            let P : List ℤ → Type 0 = IsFixedBy (action_of ops values) q in subst P (sym (k ∙ ap (λ y. y ∷ []) nought)) (fixes_zero ops values q),
-        λ f. let P : List ℤ → Type 0 = IsFixedBy (action_of ops values) m in
-            let nought : x ≡ pos 0 = fixes_only ops values m x e (subst P k (f m (has-listed (length values) _ hs all m n tt))) in
-            λ i l. all_one (λ row. dot row v ≡ pos 0) (pos 1 ∷ []) (ap (dot (pos 1 ∷ [])) k ∙ dot_one x ∙ nought) i [] l,
-      )
-
+module _ (ops : List Op) (values : List Sign) (some : 0 < length ops) (same : (q a : ℕ) → q < length ops → a < length ops → conjugate (group_of ops) q a ≡ a) where
   -- with no proper conjugates, a class is one subgroup
-  of_class : (v : List ℤ) (d : Direction) → ((a : ℕ) → a < length ops → Contains d.stabiliser a ↔ IsFixedBy (action_of ops values) a v) → IsOfClass (action_of ops values) v d
+  pub of_class : (v : List ℤ) (d : Direction) → ((a : ℕ) → a < length ops → Contains d.stabiliser a ↔ IsFixedBy (action_of ops values) a v) → IsOfClass (action_of ops values) v d
   of_class v d h =
       (0, some, λ a l. let P : ℕ → Type 0 = λ b. Contains d.stabiliser a ↔ IsFixedBy (action_of ops values) b v in subst P (sym (same 0 a some l)) (h a l))
 
-  class_of : (v : List ℤ) (d : Direction) → IsOfClass (action_of ops values) v d → (a : ℕ) → a < length ops → Contains d.stabiliser a ↔ IsFixedBy (action_of ops values) a v
+  pub class_of : (v : List ℤ) (d : Direction) → IsOfClass (action_of ops values) v d → (a : ℕ) → a < length ops → Contains d.stabiliser a ↔ IsFixedBy (action_of ops values) a v
   class_of v d (q, l, h) a m = let P : ℕ → Type 0 = λ b. Contains d.stabiliser a ↔ IsFixedBy (action_of ops values) b v in subst P (same q a l m) (h a m)
 
   -- two directions of one class are equal
-  direction-one : (d e : Direction) → IsDirection (action_of ops values) d → IsDirection (action_of ops values) e → AreConjugate (action_of ops values) d.stabiliser e.stabiliser → d ≡ e
+  pub direction-one : (d e : Direction) → IsDirection (action_of ops values) d → IsDirection (action_of ops values) e → AreConjugate (action_of ops values) d.stabiliser e.stabiliser → d ≡ e
   direction-one d e di ei (q, l, h) =
       let below_d = listed-below (length ops) _ d.stabiliser di.isotropy.2 in
       let below_e = listed-below (length ops) _ e.stabiliser ei.isotropy.2 in
@@ -219,142 +177,185 @@ module _ (ops : List Op) (values : List Sign) (size : length values ≡ length o
           by (inl e) (inr f) = let P : List (List ℤ) → Type 0 = λ t. AreEquations (action_of ops values) t hs in absurd (vanish hs (subst P e a) (subst P f b))
           by (inr e) (inl f) = let P : List (List ℤ) → Type 0 = λ t. AreEquations (action_of ops values) t hs in absurd (vanish hs (subst P f b) (subst P e a))
 
-  least : (dim : ℕ) (hs : List ℕ) (e : Direction) → IsDirection (action_of ops values) (direction_of dim hs) → IsDirection (action_of ops values) e → AreConjugate (action_of ops values) (direction_of dim hs).stabiliser e.stabiliser
-      → direction_cmp (action_of ops values) (direction_of dim hs) e ≢ Greater
-  least dim hs e di ei k g =
-      let P : Direction → Type 0 = λ d. direction_cmp (action_of ops values) (direction_of dim hs) d ≡ Greater in
-      ties dim (subst P (sym (direction-one (direction_of dim hs) e di ei k)) g)
-    where
-      equal_greater : Equal ≡ Greater → ⊥
-      equal_greater h = cc
+  module _ (size : length values ≡ length ops) where
+    -- the whole line, fixed by the operations of the value 1
+    line_direction : (hs : List ℕ) → IsKernel values hs → IsDirection (action_of ops values) (direction_of 1 hs)
+    line_direction hs m = record {
+      isotropy = (
+        pos 1 ∷ [],
+        refl,
+        list-same (length ops) _ _ hs (λ q l e. fixes ops values q e (pos 1 ∷ [])) (λ q l f. fixes_one ops values q f)
+            (subst (λ n. IsRisingListOf n (λ q. slice_index_or values q Plus ≡ Plus) hs) size m),
+      );
+      equations = record {
+        wide = λ k d l. absurd (omega arith);
+        reduced = ([], none_reduced, λ k d l. absurd (omega arith));
+        exact = λ v e. (λ all q c. fixes ops values q (listed-has (length values) _ hs m q c) v, λ f i l. absurd (omega arith));
+      };
+      whole = λ q l f. has-listed (length values) _ hs m q (omega (arith, size)) (fixes_one ops values q (f (pos 1 ∷ []) refl (λ a c. fixes ops values a (listed-has (length values) _ hs m a c) (pos 1 ∷ []))));
+    }
 
-      ties : (dim : ℕ) → direction_cmp (action_of ops values) (direction_of dim hs) (direction_of dim hs) ≡ Greater → ⊥
-      ties zero g = equal_greater (sym (ap (λ o. ordering_then o Equal) (nat_cmp-same (length hs))) ∙ g)
-      ties (suc n) g = equal_greater (sym (ap (λ o. ordering_then o Equal) (nat_cmp-same (length hs))) ∙ g)
+    -- the zero vector alone, fixed by all operations, where one of them has the value -1
+    zero_direction : (hs : List ℕ) (m : ℕ) → IsAll (length values) hs → m < length values → slice_index_or values m Plus ≡ Minus → IsDirection (action_of ops values) (direction_of 0 hs)
+    zero_direction hs m all n e = record {
+      isotropy = (
+        pos 0 ∷ [],
+        refl,
+        list-same (length ops) _ _ hs (λ q l e. fixes_zero ops values q) (λ q l f. tt) (subst (λ n. IsAll n hs) size all),
+      );
+      equations = record {
+        wide = all_one (λ row. length row ≡ 1) (pos 1 ∷ []) refl;
+        reduced = (0 ∷ [], zero_reduced, all_one (λ p. p < 1) 0 (omega arith));
+        exact = λ v k. exact v (coordinate v k);
+      };
+      whole = λ q l f. has-listed (length values) _ hs all q (omega (arith, size)) tt;
+    }
+      where
+        exact : (v : List ℤ) → (x : ℤ) × (v ≡ x ∷ []) → AllVanish ((pos 1 ∷ []) ∷ []) v ↔ IsInFixedSpace (action_of ops values) hs v
+        exact v (x, k) = (
+          λ h q c. let nought : x ≡ pos 0 = sym (dot_one x) ∙ ap (dot (pos 1 ∷ [])) (sym k) ∙ h 0 (omega arith) in
+              let P : List ℤ → Type 0 = IsFixedBy (action_of ops values) q in subst P (sym (k ∙ ap (λ y. y ∷ []) nought)) (fixes_zero ops values q),
+          λ f. let P : List ℤ → Type 0 = IsFixedBy (action_of ops values) m in
+              let nought : x ≡ pos 0 = fixes_only ops values m x e (subst P k (f m (has-listed (length values) _ hs all m n tt))) in
+              λ i l. all_one (λ row. dot row v ≡ pos 0) (pos 1 ∷ []) (ap (dot (pos 1 ∷ [])) k ∙ dot_one x ∙ nought) i [] l,
+        )
 
-  -- the whole line alone, where each operation has the value 1
-  pub listed_line : (ker : List ℕ) → IsKernel values ker → ((q : ℕ) → q < length values → slice_index_or values q Plus ≡ Plus) → IsListing (action_of ops values) (direction_of 1 ker ∷ [])
-  listed_line ker m plus = record {
-    directions = all_one (IsDirection (action_of ops values)) (direction_of 1 ker) (line_direction ker m);
-    one = λ v e. record {
-      at = 0;
-      direction = direction_of 1 ker;
-      is_at = refl;
-      of_class = of_class v (direction_of 1 ker) (λ a l. (λ c. fixes ops values a (listed-has (length values) _ ker m a c) v, λ f. has-listed (length values) _ ker m a (omega (arith, size)) (plus a (omega (arith, size)))));
-      only = only v;
-    };
-    least = λ d e c. least_in d e (only_in d c);
-    sorted = λ k d l m. absurd (omega arith);
-  }
-    where
-      none_some : (d : Direction) → None ≡ Some d → ⊥
-      none_some d h = cc
+    least : (dim : ℕ) (hs : List ℕ) (e : Direction) → IsDirection (action_of ops values) (direction_of dim hs) → IsDirection (action_of ops values) e → AreConjugate (action_of ops values) (direction_of dim hs).stabiliser e.stabiliser
+        → direction_cmp (action_of ops values) (direction_of dim hs) e ≢ Greater
+    least dim hs e di ei k g =
+        let P : Direction → Type 0 = λ d. direction_cmp (action_of ops values) (direction_of dim hs) d ≡ Greater in
+        ties dim (subst P (sym (direction-one (direction_of dim hs) e di ei k)) g)
+      where
+        equal_greater : Equal ≡ Greater → ⊥
+        equal_greater h = cc
 
-      only : (v : List ℤ) (k : ℕ) (d : Direction) → slice_get (direction_of 1 ker ∷ []) k ≡ Some d → IsOfClass (action_of ops values) v d → k ≡ 0
-      only v zero d g h = refl
-      only v (suc k) d g h = absurd (none_some d g)
+        ties : (dim : ℕ) → direction_cmp (action_of ops values) (direction_of dim hs) (direction_of dim hs) ≡ Greater → ⊥
+        ties zero g = equal_greater (sym (ap (λ o. ordering_then o Equal) (nat_cmp-same (length hs))) ∙ g)
+        ties (suc n) g = equal_greater (sym (ap (λ o. ordering_then o Equal) (nat_cmp-same (length hs))) ∙ g)
 
-      only_in : (d : Direction) → Contains (direction_of 1 ker ∷ []) d → direction_of 1 ker ≡ d
-      only_in d (zero, l, e) = e
-      only_in d (suc k, l, e) = absurd (omega arith)
+    -- the whole line alone, where each operation has the value 1
+    pub listed_line : (ker : List ℕ) → IsKernel values ker → ((q : ℕ) → q < length values → slice_index_or values q Plus ≡ Plus) → IsListing (action_of ops values) (direction_of 1 ker ∷ [])
+    listed_line ker m plus = record {
+      directions = all_one (IsDirection (action_of ops values)) (direction_of 1 ker) (line_direction ker m);
+      one = λ v e. record {
+        at = 0;
+        direction = direction_of 1 ker;
+        is_at = refl;
+        of_class = of_class v (direction_of 1 ker) (λ a l. (λ c. fixes ops values a (listed-has (length values) _ ker m a c) v, λ f. has-listed (length values) _ ker m a (omega (arith, size)) (plus a (omega (arith, size)))));
+        only = only v;
+      };
+      least = λ d e c. least_in d e (only_in d c);
+      sorted = λ k d l m. absurd (omega arith);
+    }
+      where
+        none_some : (d : Direction) → None ≡ Some d → ⊥
+        none_some d h = cc
 
-      least_in : (d e : Direction) → direction_of 1 ker ≡ d → IsDirection (action_of ops values) e → AreConjugate (action_of ops values) d.stabiliser e.stabiliser → direction_cmp (action_of ops values) d e ≢ Greater
-      least_in d e k =
-          let P : Direction → Type 0 = λ d. IsDirection (action_of ops values) e → AreConjugate (action_of ops values) d.stabiliser e.stabiliser → direction_cmp (action_of ops values) d e ≢ Greater in
-          subst P k (least 1 ker e (line_direction ker m))
+        only : (v : List ℤ) (k : ℕ) (d : Direction) → slice_get (direction_of 1 ker ∷ []) k ≡ Some d → IsOfClass (action_of ops values) v d → k ≡ 0
+        only v zero d g h = refl
+        only v (suc k) d g h = absurd (none_some d g)
 
-  -- the zero vector and the whole line, where an operation has the value -1
-  pub listed_both : (all ker : List ℕ) (m : ℕ) → IsAll (length values) all → IsKernel values ker → m < length values → slice_index_or values m Plus ≡ Minus
-      → IsListing (action_of ops values) (direction_of 0 all ∷ direction_of 1 ker ∷ [])
-  listed_both all ker m a k n e = record {
-    directions = both (IsDirection (action_of ops values)) zero_is line_is;
-    one = λ v l. one v (coordinate v l);
-    least = λ d f c. least_in d f (either d c);
-    sorted = sorted;
-  }
-    where
-      zero_is : IsDirection (action_of ops values) (direction_of 0 all)
-      zero_is = zero_direction all m a n e
+        only_in : (d : Direction) → Contains (direction_of 1 ker ∷ []) d → direction_of 1 ker ≡ d
+        only_in d (zero, l, e) = e
+        only_in d (suc k, l, e) = absurd (omega arith)
 
-      line_is : IsDirection (action_of ops values) (direction_of 1 ker)
-      line_is = line_direction ker k
+        least_in : (d e : Direction) → direction_of 1 ker ≡ d → IsDirection (action_of ops values) e → AreConjugate (action_of ops values) d.stabiliser e.stabiliser → direction_cmp (action_of ops values) d e ≢ Greater
+        least_in d e k =
+            let P : Direction → Type 0 = λ d. IsDirection (action_of ops values) e → AreConjugate (action_of ops values) d.stabiliser e.stabiliser → direction_cmp (action_of ops values) d e ≢ Greater in
+            subst P k (least 1 ker e (line_direction ker m))
 
-      both : (P : Direction → Type 0) → P (direction_of 0 all) → P (direction_of 1 ker) → All P (direction_of 0 all ∷ direction_of 1 ker ∷ [])
-      both P h g zero d l = h
-      both P h g (suc zero) d l = g
-      both P h g (suc (suc i)) d l = absurd (omega arith)
+    -- the zero vector and the whole line, where an operation has the value -1
+    pub listed_both : (all ker : List ℕ) (m : ℕ) → IsAll (length values) all → IsKernel values ker → m < length values → slice_index_or values m Plus ≡ Minus
+        → IsListing (action_of ops values) (direction_of 0 all ∷ direction_of 1 ker ∷ [])
+    listed_both all ker m a k n e = record {
+      directions = both (IsDirection (action_of ops values)) zero_is line_is;
+      one = λ v l. one v (coordinate v l);
+      least = λ d f c. least_in d f (either d c);
+      sorted = sorted;
+    }
+      where
+        zero_is : IsDirection (action_of ops values) (direction_of 0 all)
+        zero_is = zero_direction all m a n e
 
-      none_some : (d : Direction) → None ≡ Some d → ⊥
-      none_some d h = cc
+        line_is : IsDirection (action_of ops values) (direction_of 1 ker)
+        line_is = line_direction ker k
 
-      some_same : (d f : Direction) → Some d ≡ Some f → d ≡ f
-      some_same d f h = cc
+        both : (P : Direction → Type 0) → P (direction_of 0 all) → P (direction_of 1 ker) → All P (direction_of 0 all ∷ direction_of 1 ker ∷ [])
+        both P h g zero d l = h
+        both P h g (suc zero) d l = g
+        both P h g (suc (suc i)) d l = absurd (omega arith)
 
-      either : (d : Direction) → Contains (direction_of 0 all ∷ direction_of 1 ker ∷ []) d → (direction_of 0 all ≡ d) ⊎ (direction_of 1 ker ≡ d)
-      either d (zero, l, h) = inl h
-      either d (suc zero, l, h) = inr h
-      either d (suc (suc i), l, h) = absurd (omega arith)
+        none_some : (d : Direction) → None ≡ Some d → ⊥
+        none_some d h = cc
 
-      least_in : (d f : Direction) → (direction_of 0 all ≡ d) ⊎ (direction_of 1 ker ≡ d) → IsDirection (action_of ops values) f → AreConjugate (action_of ops values) d.stabiliser f.stabiliser
-          → direction_cmp (action_of ops values) d f ≢ Greater
-      least_in d f (inl h) =
-          let P : Direction → Type 0 = λ d. IsDirection (action_of ops values) f → AreConjugate (action_of ops values) d.stabiliser f.stabiliser → direction_cmp (action_of ops values) d f ≢ Greater in
-          subst P h (least 0 all f zero_is)
-      least_in d f (inr h) =
-          let P : Direction → Type 0 = λ d. IsDirection (action_of ops values) f → AreConjugate (action_of ops values) d.stabiliser f.stabiliser → direction_cmp (action_of ops values) d f ≢ Greater in
-          subst P h (least 1 ker f line_is)
+        some_same : (d f : Direction) → Some d ≡ Some f → d ≡ f
+        some_same d f h = cc
 
-      sorted : IsSorted (direction_cmp (action_of ops values)) (direction_of 0 all ∷ direction_of 1 ker ∷ [])
-      sorted zero d l h = refl
-      sorted (suc i) d l h = absurd (omega arith)
+        either : (d : Direction) → Contains (direction_of 0 all ∷ direction_of 1 ker ∷ []) d → (direction_of 0 all ≡ d) ⊎ (direction_of 1 ker ≡ d)
+        either d (zero, l, h) = inl h
+        either d (suc zero, l, h) = inr h
+        either d (suc (suc i), l, h) = absurd (omega arith)
 
-      -- the line isn't of the class of the zero vector
-      not_line : (v : List ℤ) → v ≡ pos 0 ∷ [] → IsOfClass (action_of ops values) v (direction_of 1 ker) → ⊥
-      not_line v g h =
-          let P : List ℤ → Type 0 = IsFixedBy (action_of ops values) m in
-          apart _ e (listed-has (length values) _ ker k m ((class_of v (direction_of 1 ker) h m (omega (arith, size))).1 (subst P (sym g) (fixes_zero ops values m))))
+        least_in : (d f : Direction) → (direction_of 0 all ≡ d) ⊎ (direction_of 1 ker ≡ d) → IsDirection (action_of ops values) f → AreConjugate (action_of ops values) d.stabiliser f.stabiliser
+            → direction_cmp (action_of ops values) d f ≢ Greater
+        least_in d f (inl h) =
+            let P : Direction → Type 0 = λ d. IsDirection (action_of ops values) f → AreConjugate (action_of ops values) d.stabiliser f.stabiliser → direction_cmp (action_of ops values) d f ≢ Greater in
+            subst P h (least 0 all f zero_is)
+        least_in d f (inr h) =
+            let P : Direction → Type 0 = λ d. IsDirection (action_of ops values) f → AreConjugate (action_of ops values) d.stabiliser f.stabiliser → direction_cmp (action_of ops values) d f ≢ Greater in
+            subst P h (least 1 ker f line_is)
 
-      -- the zero vector alone isn't of the class of another
-      not_zero : (v : List ℤ) (x : ℤ) → v ≡ x ∷ [] → (x ≡ pos 0 → ⊥) → IsOfClass (action_of ops values) v (direction_of 0 all) → ⊥
-      not_zero v x g nonzero h =
-          let P : List ℤ → Type 0 = IsFixedBy (action_of ops values) m in
-          nonzero (fixes_only ops values m x e (subst P g ((class_of v (direction_of 0 all) h m (omega (arith, size))).0 (has-listed (length values) _ all a m n tt))))
+        sorted : IsSorted (direction_cmp (action_of ops values)) (direction_of 0 all ∷ direction_of 1 ker ∷ [])
+        sorted zero d l h = refl
+        sorted (suc i) d l h = absurd (omega arith)
 
-      only_zero : (v : List ℤ) → v ≡ pos 0 ∷ [] → (i : ℕ) (d : Direction) → slice_get (direction_of 0 all ∷ direction_of 1 ker ∷ []) i ≡ Some d → IsOfClass (action_of ops values) v d → i ≡ 0
-      only_zero v g zero d s h = refl
-      only_zero v g (suc zero) d s h = let P : Direction → Type 0 = IsOfClass (action_of ops values) v in absurd (not_line v g (subst P (sym (some_same (direction_of 1 ker) d s)) h))
-      only_zero v g (suc (suc i)) d s h = absurd (none_some d s)
+        -- the line isn't of the class of the zero vector
+        not_line : (v : List ℤ) → v ≡ pos 0 ∷ [] → IsOfClass (action_of ops values) v (direction_of 1 ker) → ⊥
+        not_line v g h =
+            let P : List ℤ → Type 0 = IsFixedBy (action_of ops values) m in
+            apart _ e (listed-has (length values) _ ker k m ((class_of v (direction_of 1 ker) h m (omega (arith, size))).1 (subst P (sym g) (fixes_zero ops values m))))
 
-      only_line : (v : List ℤ) (x : ℤ) → v ≡ x ∷ [] → (x ≡ pos 0 → ⊥) → (i : ℕ) (d : Direction) → slice_get (direction_of 0 all ∷ direction_of 1 ker ∷ []) i ≡ Some d → IsOfClass (action_of ops values) v d → i ≡ 1
-      only_line v x g nonzero zero d s h = let P : Direction → Type 0 = IsOfClass (action_of ops values) v in absurd (not_zero v x g nonzero (subst P (sym (some_same (direction_of 0 all) d s)) h))
-      only_line v x g nonzero (suc zero) d s h = refl
-      only_line v x g nonzero (suc (suc i)) d s h = absurd (none_some d s)
+        -- the zero vector alone isn't of the class of another
+        not_zero : (v : List ℤ) (x : ℤ) → v ≡ x ∷ [] → (x ≡ pos 0 → ⊥) → IsOfClass (action_of ops values) v (direction_of 0 all) → ⊥
+        not_zero v x g nonzero h =
+            let P : List ℤ → Type 0 = IsFixedBy (action_of ops values) m in
+            nonzero (fixes_only ops values m x e (subst P g ((class_of v (direction_of 0 all) h m (omega (arith, size))).0 (has-listed (length values) _ all a m n tt))))
 
-      -- an operation that fixes another vector than zero has the value 1
-      plus_of : (v : List ℤ) (x : ℤ) → v ≡ x ∷ [] → (x ≡ pos 0 → ⊥) → (q : ℕ) → IsFixedBy (action_of ops values) q v → slice_index_or values q Plus ≡ Plus
-      plus_of v x g nonzero q f = by (slice_index_or values q Plus) refl
-        where
-          by : (s : Sign) → slice_index_or values q Plus ≡ s → slice_index_or values q Plus ≡ Plus
-          by Plus h = h
-          by Minus h = let P : List ℤ → Type 0 = IsFixedBy (action_of ops values) q in absurd (nonzero (fixes_only ops values q x h (subst P g f)))
+        only_zero : (v : List ℤ) → v ≡ pos 0 ∷ [] → (i : ℕ) (d : Direction) → slice_get (direction_of 0 all ∷ direction_of 1 ker ∷ []) i ≡ Some d → IsOfClass (action_of ops values) v d → i ≡ 0
+        only_zero v g zero d s h = refl
+        only_zero v g (suc zero) d s h = let P : Direction → Type 0 = IsOfClass (action_of ops values) v in absurd (not_line v g (subst P (sym (some_same (direction_of 1 ker) d s)) h))
+        only_zero v g (suc (suc i)) d s h = absurd (none_some d s)
 
-      one : (v : List ℤ) → (x : ℤ) × (v ≡ x ∷ []) → HasOneOfClass (action_of ops values) v (direction_of 0 all ∷ direction_of 1 ker ∷ [])
-      one v (x, g) = by (nonzero_or x)
-        where
-          by : (x ≡ pos 0) ⊎ (x ≡ pos 0 → ⊥) → HasOneOfClass (action_of ops values) v (direction_of 0 all ∷ direction_of 1 ker ∷ [])
-          by (inl h) =
-              let zero_vector : v ≡ pos 0 ∷ [] = g ∙ ap (λ y. y ∷ []) h in
-              record {
-                at = 0;
-                direction = direction_of 0 all;
-                is_at = refl;
-                of_class = of_class v (direction_of 0 all) (λ q l. (λ c. let P : List ℤ → Type 0 = IsFixedBy (action_of ops values) q in subst P (sym zero_vector) (fixes_zero ops values q), λ f. has-listed (length values) _ all a q (omega (arith, size)) tt));
-                only = only_zero v zero_vector;
-              }
-          by (inr nonzero) = record {
-            at = 1;
-            direction = direction_of 1 ker;
-            is_at = refl;
-            of_class = of_class v (direction_of 1 ker) (λ q l. (λ c. fixes ops values q (listed-has (length values) _ ker k q c) v, λ f. has-listed (length values) _ ker k q (omega (arith, size)) (plus_of v x g nonzero q f)));
-            only = only_line v x g nonzero;
-          }
+        only_line : (v : List ℤ) (x : ℤ) → v ≡ x ∷ [] → (x ≡ pos 0 → ⊥) → (i : ℕ) (d : Direction) → slice_get (direction_of 0 all ∷ direction_of 1 ker ∷ []) i ≡ Some d → IsOfClass (action_of ops values) v d → i ≡ 1
+        only_line v x g nonzero zero d s h = let P : Direction → Type 0 = IsOfClass (action_of ops values) v in absurd (not_zero v x g nonzero (subst P (sym (some_same (direction_of 0 all) d s)) h))
+        only_line v x g nonzero (suc zero) d s h = refl
+        only_line v x g nonzero (suc (suc i)) d s h = absurd (none_some d s)
+
+        -- an operation that fixes another vector than zero has the value 1
+        plus_of : (v : List ℤ) (x : ℤ) → v ≡ x ∷ [] → (x ≡ pos 0 → ⊥) → (q : ℕ) → IsFixedBy (action_of ops values) q v → slice_index_or values q Plus ≡ Plus
+        plus_of v x g nonzero q f = by (slice_index_or values q Plus) refl
+          where
+            by : (s : Sign) → slice_index_or values q Plus ≡ s → slice_index_or values q Plus ≡ Plus
+            by Plus h = h
+            by Minus h = let P : List ℤ → Type 0 = IsFixedBy (action_of ops values) q in absurd (nonzero (fixes_only ops values q x h (subst P g f)))
+
+        one : (v : List ℤ) → (x : ℤ) × (v ≡ x ∷ []) → HasOneOfClass (action_of ops values) v (direction_of 0 all ∷ direction_of 1 ker ∷ [])
+        one v (x, g) = by (nonzero_or x)
+          where
+            by : (x ≡ pos 0) ⊎ (x ≡ pos 0 → ⊥) → HasOneOfClass (action_of ops values) v (direction_of 0 all ∷ direction_of 1 ker ∷ [])
+            by (inl h) =
+                let zero_vector : v ≡ pos 0 ∷ [] = g ∙ ap (λ y. y ∷ []) h in
+                record {
+                  at = 0;
+                  direction = direction_of 0 all;
+                  is_at = refl;
+                  of_class = of_class v (direction_of 0 all) (λ q l. (λ c. let P : List ℤ → Type 0 = IsFixedBy (action_of ops values) q in subst P (sym zero_vector) (fixes_zero ops values q), λ f. has-listed (length values) _ all a q (omega (arith, size)) tt));
+                  only = only_zero v zero_vector;
+                }
+            by (inr nonzero) = record {
+              at = 1;
+              direction = direction_of 1 ker;
+              is_at = refl;
+              of_class = of_class v (direction_of 1 ker) (λ q l. (λ c. fixes ops values q (listed-has (length values) _ ker k q c) v, λ f. has-listed (length values) _ ker k q (omega (arith, size)) (plus_of v x g nonzero q f)));
+              only = only_line v x g nonzero;
+            }

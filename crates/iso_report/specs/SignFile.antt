@@ -1,8 +1,9 @@
 -- The files of one sign representation.
 --
+-- SignContent: what a file says
 -- symbol_text s: a Hall symbol; operations_of s: its operations in order
 -- file_text s name values: the bytes of a file
--- IsSignFile bytes f: the bytes are those of the file f
+-- IsSignFile bytes f: the bytes are those of a file that says f
 use Rattle.std.specs.Prelude.{◌≡◌, ℕ, true, ℤ, pos, negsuc, List, [], ◌∷◌, ◌++◌, Some, length, slice_get, codes}
 use Rattle.iso_text.specs.Lines.{line}
 use Rattle.iso_text.specs.Name.{is_name}
@@ -12,7 +13,12 @@ use Rattle.iso_report.specs.declared.sign_file.Sign.{Sign}
 use Rattle.iso_report.specs.declared.sign_file.Sign.TheVariants.{Plus, Minus}
 use Rattle.iso_report.specs.declared.sign_file.Symbol.{Symbol}
 use Rattle.iso_report.specs.declared.sign_file.Symbol.TheVariants.{P1, CentricP1, P2, CentricP2}
-use Rattle.iso_report.specs.declared.sign_file.SignFile.{SignFile}
+
+-- the symbol, the name of the irrep, and a value for each operation
+pub record SignContent : Type 0 where
+  pub symbol : Symbol
+  pub name : List ℕ
+  pub values : List Sign
 
 -- the operation with this diagonal and no translation
 abbrev pub diagonal : ℤ → ℤ → ℤ → Op
@@ -76,8 +82,8 @@ pub record AreValues (symbol : Symbol) (values : List Sign) (bytes : List ℕ) :
   pub text : bytes ≡ value_lines symbol values
 
 -- the bytes are a file with a name, and values of its operations
-pub record IsSignFile (bytes : List ℕ) (f : SignFile) : Type 0 where
+pub record IsSignFile (bytes : List ℕ) (f : SignContent) : Type 0 where
   pub name : is_name f.name ≡ true
   pub rest : List ℕ
   pub head : bytes ≡ symbol_lines f.symbol (irrep_lines f.name rest)
-  pub values : AreValues f.symbol f.values.items rest
+  pub values : AreValues f.symbol f.values rest

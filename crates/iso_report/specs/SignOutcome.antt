@@ -6,9 +6,8 @@
 use Rattle.std.specs.Prelude.{◌≡◌, ℕ, List}
 use Rattle.iso_report.specs.declared.refusal.Refusal.{Refusal}
 use Rattle.iso_report.specs.declared.refusal.Refusal.TheVariants as refusal
-use Rattle.iso_report.specs.declared.sign_file.SignFile.{SignFile}
 use Rattle.iso_report.specs.Finding.{Finding, report}
-use Rattle.iso_report.specs.SignFile.{IsSignFile, operations_of}
+use Rattle.iso_report.specs.SignFile.{SignContent, IsSignFile, operations_of}
 use Rattle.iso_report.specs.SignListing.{Direction, IsListing}
 use Rattle.iso_report.specs.SignRep.{IsRepresentation, IsFirstFailing, action_of, operation}
 use Rattle.iso_report.specs.SignReport.{listing_text}
@@ -16,25 +15,25 @@ use Rattle.iso_report.specs.Steps.{After, never}
 
 -- the bytes have another form
 abbrev pub RefusesForm : List ℕ → Refusal → Type 0
-RefusesForm bytes r = ((file : SignFile) → IsSignFile bytes file → ⊥) × (r ≡ refusal.NotBuilt)
+RefusesForm bytes r = ((file : SignContent) → IsSignFile bytes file → ⊥) × (r ≡ refusal.NotBuilt)
 
-abbrev pub IsFormed : List ℕ → SignFile → Type 0
+abbrev pub IsFormed : List ℕ → SignContent → Type 0
 IsFormed bytes file = IsSignFile bytes file
 
 -- the first pair of values that doesn't multiply
-abbrev pub RefusesLaw : SignFile → Refusal → Type 0
+abbrev pub RefusesLaw : SignContent → Refusal → Type 0
 RefusesLaw file r =
     let ops = operations_of file.symbol in
-    (a : ℕ) × (b : ℕ) × IsFirstFailing ops file.values.items a b × (r ≡ refusal.NotMultiplying file.name (operation ops a) (operation ops b))
+    (a : ℕ) × (b : ℕ) × IsFirstFailing ops file.values a b × (r ≡ refusal.NotMultiplying file.name (operation ops a) (operation ops b))
 
-abbrev pub IsLawful : SignFile → SignFile → Type 0
-IsLawful file lawful = IsRepresentation (operations_of file.symbol) file.values.items × (lawful ≡ file)
+abbrev pub IsLawful : SignContent → SignContent → Type 0
+IsLawful file lawful = IsRepresentation (operations_of file.symbol) file.values × (lawful ≡ file)
 
 -- the report of the listing
-abbrev pub IsListed : SignFile → Finding → Type 0
+abbrev pub IsListed : SignContent → Finding → Type 0
 IsListed file f =
     let ops = operations_of file.symbol in
-    let act = action_of ops file.values.items in
+    let act = action_of ops file.values in
     (ds : List Direction) × IsListing act ds × (f ≡ report (listing_text file.name ops act ds))
 
 -- the listing of a file of one sign representation

@@ -11,4 +11,4 @@ use Rattle.iso_report.specs.declared.sign_found.SignFound.{SignFound}
 abbrev pub seen_text : SignFound → List ℕ
 seen_text l =
     let ops = operations_of l.file.symbol in
-    listing_text l.file.name ops (action_of ops l.file.values.items) (seen l.directions.items)
+    listing_text l.file.name ops (action_of ops l.file.values) (seen l.directions.items)

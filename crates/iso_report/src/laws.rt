@@ -6,9 +6,9 @@ use hall_symbol::law_of_symbols;
 use iso_text::law_of_files;
 use space_ops::law_of_lists;
 
-/// `check` finds at most one thing in the bytes of a file.
+/// Each job finds at most one thing in the bytes of a file.
 pub fn law_of_outcomes()
-    ensures { HasOneOutcome Job.Check }
+    ensures { (job : Job) → HasOneOutcome job }
 {
     law_of_files();
     law_of_symbols();

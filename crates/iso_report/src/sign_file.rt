@@ -3,12 +3,13 @@ ghost use Rattle.std.specs.Prelude.{◌≡◌, ◌≢◌, ◌+◌, ◌<◌, ◌�
 ghost use Rattle.iso_text.specs.Name.{is_name};
 ghost use Rattle.space_ops.specs.OpText.{text_of};
 ghost use Rattle.iso_text.specs.Lines.{line};
-ghost use Rattle.iso_report.specs.SignFile.{diagonal, symbol_text, operations_of, sign_text, mat_text, mats_text, irrep_line, irrep_lines, symbol_lines, AreValues, IsSignFile};
+ghost use Rattle.iso_report.specs.SignFile.{diagonal, symbol_text, operations_of, sign_text, mat_text, mats_text, irrep_line, irrep_lines, symbol_lines, AreValues, IsSignFile, SignContent};
 
 use arrayvec::ArrayVec;
 use iso_text::{Name, NoMemory, Text};
 use space_ops::Op;
 use std::alloc::Global;
+use std::marker::Model;
 
 /// The Hall symbols of these files.
 #[derive(Clone, Copy, Debug, PartialEq, Eq)]
@@ -52,6 +53,14 @@ pub struct SignFile {
     pub symbol: Symbol,
     pub name: Name,
     pub values: ArrayVec<Sign, 4>,
+}
+
+impl Model for SignFile {
+    ghost use Rattle.iso_report.specs.SignFile.{SignContent};
+
+    ghost Value = { SignContent };
+
+    ghost view = { λ f. record { symbol = f.symbol; name = f.name; values = f.values.items } };
 }
 
 // The operation with this diagonal and no translation.
@@ -234,7 +243,7 @@ fn read_values<'a>(
 
 /// The file that the bytes are, where they have the form of one.
 pub fn read(alloc: Global, bytes: &[u8]) -> Result<Option<SignFile>, NoMemory>
-    ensures { IfOk result (λ read. MatchOption read ((f : SignFile) → IsSignFile bytes.now f → ⊥) (λ f. IsSignFile bytes.now f)) }
+    ensures { IfOk result (λ read. MatchOption read ((f : SignContent) → IsSignFile bytes.now f → ⊥) (λ f. IsSignFile bytes.now f)) }
 {
     let Some((symbol, irrep)) = read_symbol_lines(bytes) else {
         return Ok(None);

@@ -20,8 +20,8 @@ use std::alloc::Global;
 
 // The listing of a file's irrep, or the first pair of values that don't multiply.
 fn listing_of(alloc: Global, file: SignFile) -> Result<Step<Found>, NoMemory>
-    requires each { length file.values.items ≡ length (operations_of file.symbol) }
-    requires identity { slice_get file.values.items 0 ≡ Some Sign.Plus }
+    requires each { length file.values ≡ length (operations_of file.symbol) }
+    requires identity { slice_get file.values 0 ≡ Some Sign.Plus }
     ensures { IfOk result (λ step. After RefusesLaw never IsLawful IsListed file (finding_of step)) }
 {
     let operations = file.symbol.operations();

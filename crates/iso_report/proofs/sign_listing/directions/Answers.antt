@@ -17,9 +17,9 @@ pub returns-in_ok-all_numbers-in-Some : goal.returns-in_ok-all_numbers-in-Some
 returns-in_ok-all_numbers-in-Some c =
     let minus = c.in-Some.ensures in
     listing_of _ _ _ c.two_directions.ensures
-    (listed_both (operations_of c.args.symbol) c.args.values.now c.requires.each (some_operation c.args.symbol) (conjugate_same c.args.symbol) _ _ _ c.in_ok-all_numbers-in-Some.ensures c.in_ok-kernel.ensures minus.0 minus.1)
+    (listed_both (operations_of c.args.symbol) c.args.values.now (some_operation c.args.symbol) (conjugate_same c.args.symbol) c.requires.each _ _ _ c.in_ok-all_numbers-in-Some.ensures c.in_ok-kernel.ensures minus.0 minus.1)
 
 pub returns-in-None : goal.returns-in-None
 returns-in-None c =
     listing_of _ _ _ c.one_direction.ensures
-    (listed_line (operations_of c.args.symbol) c.args.values.now c.requires.each (some_operation c.args.symbol) (conjugate_same c.args.symbol) _ c.in_ok-kernel.ensures c.in-None.ensures)
+    (listed_line (operations_of c.args.symbol) c.args.values.now (some_operation c.args.symbol) (conjugate_same c.args.symbol) c.requires.each _ c.in_ok-kernel.ensures c.in-None.ensures)

@@ -1,0 +1,50 @@
+-- What one outcome of each job says of the answers.
+use Rattle.std.proofs.Common.{◌≡◌, ◌≢◌, ℕ, ◌≤◌, inl, inr, List, Option, Some, None, IfSome, length, sym, subst, arith}
+use Rattle.iso_report.specs.Endings.{Change}
+use Rattle.iso_report.specs.Outcome.{IsOutcome, report, refused}
+use Rattle.iso_report.specs.OutcomeLaws.{HasOneOutcome}
+use Rattle.iso_report.specs.declared.job.Job.{Job}
+use Rattle.iso_report.specs.declared.refusal.Refusal.{Refusal}
+use Rattle.iso_cli.specs.declared.status.Status.{Status}
+use Rattle.iso_cli.specs.declared.status.Status.TheVariants as status
+use Rattle.iso_cli.specs.Answers.{Answers, IsRefused, max_bytes}
+
+report_refused : (r : List ℕ) (q : Refusal) → report r ≡ refused q → ⊥
+report_refused r q e = cc
+
+module _ (one : (job : Job) → HasOneOutcome job) (job : Job) (s : Status) (bytes : List ℕ) (out err : Change) (a : Answers job bytes s out err) where
+  -- few enough bytes with a report are not refused
+  not_refused : length bytes ≤ max_bytes → (r : List ℕ) → IsOutcome job bytes (report r) → s ≢ status.Refused
+  not_refused l r o e = by (subst (λ (t : Status). Answers job bytes t out err) e a).1
+    where
+      by : IsRefused job bytes err → ⊥
+      by (inl (m, said)) = absurd (omega (arith, l, m))
+      by (inr (q, m, p, said)) = report_refused r q (one job bytes (report r) (refused q) o p)
+
+  -- bytes that are refused have no report, whole or in part
+  not_reported : (q : Refusal) → IsOutcome job bytes (refused q) → (s ≢ status.Done) × (s ≢ status.WriteFault)
+  not_reported q o = (
+    λ e. let done = (subst (λ (t : Status). Answers job bytes t out err) e a).1 in report_refused done.0 q (one job bytes (report done.0) (refused q) done.1 o),
+    λ e. let broken = (subst (λ (t : Status). Answers job bytes t out err) e a).1 in report_refused broken.0 q (one job bytes (report broken.0) (refused q) broken.1 o),
+  )
+
+-- of the job that the words name, and of the bytes that were left
+module _ (named : Option Job) (job : Job) (named_is : named ≡ Some job) (P Q : Job → List ℕ → Type 0) where
+  pub of_named : (left : Option (List ℕ)) → ((bytes : List ℕ) → P job bytes → Q job bytes) → IfSome left (P job) → IfSome named (λ j. IfSome left (Q j))
+  of_named left f h = subst (λ (o : Option Job). IfSome o (λ j. IfSome left (Q j))) (sym named_is) (inner left h)
+    where
+      inner : (left : Option (List ℕ)) → IfSome left (P job) → IfSome left (Q job)
+      inner None h = tt
+      inner (Some bytes) h = f bytes h
+
+module _ (one : (job : Job) → HasOneOutcome job) (named : Option Job) (job : Job) (named_is : named ≡ Some job) (left : Option (List ℕ)) (s : Status) (out err : Change)
+    (a : IfSome left (λ bytes. Answers job bytes s out err)) where
+  pub complete_answer : IfSome named (λ j. IfSome left (λ bytes. length bytes ≤ max_bytes → (r : List ℕ) → IsOutcome j bytes (report r) → s ≢ status.Refused))
+  complete_answer =
+      of_named named job named_is (λ j bytes. Answers j bytes s out err) (λ j bytes. length bytes ≤ max_bytes → (r : List ℕ) → IsOutcome j bytes (report r) → s ≢ status.Refused)
+      left (λ bytes h. not_refused one job s bytes out err h) a
+
+  pub sound_answer : IfSome named (λ j. IfSome left (λ bytes. (r : Refusal) → IsOutcome j bytes (refused r) → (s ≢ status.Done) × (s ≢ status.WriteFault)))
+  sound_answer =
+      of_named named job named_is (λ j bytes. Answers j bytes s out err) (λ j bytes. (r : Refusal) → IsOutcome j bytes (refused r) → (s ≢ status.Done) × (s ≢ status.WriteFault))
+      left (λ bytes h. not_reported one job s bytes out err h) a
