@@ -34,6 +34,7 @@ use Rattle.cyclo24.specs.RootsK24.{r2, r3, r6}
 use Rattle.cyclo24.specs.Written4.{fraction_of, numbers4, sum, product, negated}
 use Rattle.cyclo24.specs.Written4Inverse.{inverse, upright}
 use Rattle.cyclo24.specs.Written8 as Eights
+use Rattle.cyclo24.specs.Written8Products as EightProducts
 use Rattle.cyclo24.specs.Written8.{fraction8_of, numbers8}
 use Rattle.cyclo24.specs.K24Laws.{IsLow, exact_of, made_low, made_value, product24, sum24, inverse24, neg_parts}
 use Rattle.cyclo24.specs.K24NumbersLaws.{whole_list}
@@ -249,9 +250,9 @@ low_z24 x = made_low8 (fraction8_of x.0) x (nine x.0 (exact_is 8 x.0 x.1).size)
 same_z24 : (x : ExactZ24) → exact_of8 (fraction8_of x.0) (low_z24 x) ≡ x
 same_z24 x = made_value8 (fraction8_of x.0) x (nine x.0 (exact_is 8 x.0 x.1).size) (low_z24 x)
 
-pub product_formula8 : (x y : ExactZ24) → (z24_laws.times x y).0 ≡ reduced8 (Eights.product (fraction8_of x.0) (fraction8_of y.0)).value
+pub product_formula8 : (x y : ExactZ24) → (z24_laws.times x y).0 ≡ reduced8 (EightProducts.product (fraction8_of x.0) (fraction8_of y.0)).value
 product_formula8 x y =
-    let a = fraction8_of x.0 in let b = fraction8_of y.0 in let v = (Eights.product a b).value in
+    let a = fraction8_of x.0 in let b = fraction8_of y.0 in let v = (EightProducts.product a b).value in
     sym (product_z24 a b v (fraction8_of (reduced8 v)) (low_z24 x) (low_z24 y) refl refl ∙ (λ i. (z24_laws.times (same_z24 x i) (same_z24 y i)).0))
 
 pub sum_formula8 : (x y : ExactZ24) → (z24_laws.plus x y).0 ≡ reduced8 (Eights.sum (fraction8_of x.0) (fraction8_of y.0)).value

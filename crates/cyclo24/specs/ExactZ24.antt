@@ -21,7 +21,8 @@ use Rattle.cyclo24.specs.EightNormLaws.{eight_is, above0, above3}
 use Rattle.cyclo24.specs.Checked.{any_wide}
 use Rattle.cyclo24.specs.ExactK24.{Exact24, k24_laws, is_wide_inverse24}
 use Rattle.cyclo24.specs.Written4.{fraction_of}
-use Rattle.cyclo24.specs.Written8.{fraction8_of, sum, negated, imaginary as imaginary_of}
+use Rattle.cyclo24.specs.Written8.{fraction8_of, sum, negated}
+use Rattle.cyclo24.specs.Written8Parts.{imaginary as imaginary_of}
 use Rattle.cyclo24.specs.Written8Products.{product}
 use Rattle.cyclo24.specs.Written8Parts.{conjugate, real, from_four}
 

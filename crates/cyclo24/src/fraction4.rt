@@ -77,7 +77,7 @@ fn product3(a: Fraction4, b: Fraction4) -> Result<Whole, Wide>
 }
 
 // a0² + 2 a1² - 3 a2² - 6 a3².
-#[tactic(auto, unfolding(crate::specs::Written4::norm_u))]
+#[tactic(auto, unfolding(crate::specs::Written4Inverse::norm_u))]
 #[rattlefmt::skip]
 fn norm_u(a: Fraction4) -> Result<Whole, Wide>
     ensures { result ≡ answer (norm_u a) }
@@ -91,7 +91,7 @@ fn norm_u(a: Fraction4) -> Result<Whole, Wide>
 }
 
 // 2 a0 a1 - 6 a2 a3.
-#[tactic(auto, unfolding(crate::specs::Written4::norm_v))]
+#[tactic(auto, unfolding(crate::specs::Written4Inverse::norm_v))]
 #[rattlefmt::skip]
 fn norm_v(a: Fraction4) -> Result<Whole, Wide>
     ensures { result ≡ answer (norm_v a) }
@@ -103,7 +103,7 @@ fn norm_v(a: Fraction4) -> Result<Whole, Wide>
 }
 
 // u² - 2 v².
-#[tactic(auto, unfolding(crate::specs::Written4::norm))]
+#[tactic(auto, unfolding(crate::specs::Written4Inverse::norm))]
 #[rattlefmt::skip]
 fn norm(u: Whole, v: Whole) -> Result<Whole, Wide>
     ensures { result ≡ answer (norm u v) }

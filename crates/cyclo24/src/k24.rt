@@ -99,7 +99,7 @@ impl K24 {
 impl Field for K24 {
     ghost use Rattle.cyclo24.specs.ExactK24.{k24};
     ghost use Rattle.cyclo24.specs.K24.{exact24};
-    ghost use Rattle.cyclo24.specs.K24Order.{exact24_cmp};
+    ghost use Rattle.cyclo24.specs.K24OrderLaws.{exact24_cmp};
 
     ghost field = { k24 };
 

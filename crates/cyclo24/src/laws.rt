@@ -54,7 +54,7 @@ pub fn law_of_squares()
 {}
 
 /// r2 r2 = 2, r3 r3 = 3 and r2 r3 = r6.
-#[tactic(auto, using(crate::specs::RootsK24::r2_square, crate::specs::RootsK24::r3_square))]
+#[tactic(auto, using(crate::specs::RootsK24Laws::r2_square, crate::specs::RootsK24Laws::r3_square))]
 pub fn law_of_roots()
     ensures two { k24_laws.times r2 r2 ≡ of_whole k24_laws (pos 2) }
     ensures three { k24_laws.times r3 r3 ≡ of_whole k24_laws (pos 3) }

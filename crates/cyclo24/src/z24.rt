@@ -27,7 +27,7 @@ pub struct Z24 {
 impl Field for Z24 {
     ghost use Rattle.cyclo24.specs.ExactZ24.{z24};
     ghost use Rattle.cyclo24.specs.Z24.{exact_z24};
-    ghost use Rattle.cyclo24.specs.Z24Order.{exact_z24_cmp};
+    ghost use Rattle.cyclo24.specs.Z24OrderLaws.{exact_z24_cmp};
 
     ghost field = { z24 };
 

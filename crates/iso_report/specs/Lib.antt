@@ -1,21 +1,44 @@
+-- The modules, each behind those that it stands on.
+
+-- what is found for a job and a file's bytes
 pub mod Finding
+-- the steps of the work on a file, one after the other
 pub mod Steps
+-- the law of a step
 pub mod StepLaws
+-- what the steps of the work have found of a file so far, each with all that came before
 pub mod Contexts
+-- the lattice and the generators that a file gives its parent group, by a Hall symbol or by operations
 pub mod Generators
+-- the numbered steps of the work on a file
 pub mod Stages
+-- the report of `check` on a file with no irrep
 pub mod Check
+-- a finite group that acts on vectors, stabilisers of vectors and fixed subspaces
 pub mod SignAction
+-- order parameter directions
 pub mod SignListing
+-- one-dimensional representations of a group of operations by the signs 1 and -1
 pub mod SignRep
+-- the directions of a sign representation
 pub mod SignDirections
+-- what the program's directions stand for
 pub mod SignSeen
+-- the files of one sign representation
 pub mod SignFile
+-- the texts of the listing of a sign representation
 pub mod SignReport
+-- what the definitions say for the files of one sign representation
 pub mod SignOutcome
+-- the report that is written of a listing
 pub mod SignTexts
+-- the texts of refusals
 pub mod Report
+-- what the definitions say for a job and a file's bytes, step by step in the order of refusals
 pub mod Outcome
+-- what the definition of an outcome settles, for any file's bytes
 pub mod OutcomeLaws
+-- how a run over a file's bytes ends, and what it then leaves
 pub mod Endings
+-- what the program has found, as the definitions name it
 pub mod Found
