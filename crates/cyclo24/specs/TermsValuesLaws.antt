@@ -29,6 +29,7 @@ use Rattle.cyclo24.specs.FractionLaws.{lower}
 use Rattle.cyclo24.specs.Numerators.{content_of}
 use Rattle.cyclo24.specs.CommonLaws.{content_of_is}
 use Rattle.cyclo24.specs.ListedLaws.{exact_ones, listed, listed-lower}
+use Rattle.iso_text.specs.declared.numbers.Unit.{Unit as TermUnit}
 use Rattle.cyclo24.specs.declared.whole.Whole.{Whole}
 use Rattle.cyclo24.specs.declared.fraction8.Fraction8.{Fraction8}
 use Rattle.cyclo24.specs.Checked.{is_wide}
