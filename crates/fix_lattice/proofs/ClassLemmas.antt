@@ -5,7 +5,7 @@
 -- has-image-prop: a form has its image in a list of different forms at one place
 -- kept-all: a list kept by the generators is kept by each element
 -- class-holds: a list closed by classes has the equations of each distinct Fix(H)
-use Rattle.std.proofs.Common.{◌≡◌, ◌↔◌, ℕ, ◌<◌, ◌⊎◌, inl, inr, refl, sym, subst, List, [], ◌∷◌, arith, length}
+use Rattle.std.proofs.Common.{◌≡◌, ◌↔◌, ℕ, ◌<◌, ◌⊎◌, inl, inr, sym, subst, List, [], ◌∷◌, arith, length}
 use denote.Struct.Props.{props}
 use Rattle.algebra.specs.NumberedGroup.{AllBelow}
 use Rattle.algebra.specs.GeneratedLaws.{generated-holds}
@@ -32,6 +32,9 @@ pair-prop B prop p q e =
     let C : ℕ → Type 0 = λ z. (c : B z) → ◌≡◌ {A = (x : ℕ) × B x} (a, b) (z, c) in
     subst C e (λ c i. (a, prop a b c i)) q.1
 
+unit-prop : IsProp (Unit {0})
+unit-prop = hlevel props
+
 below-prop : (m n : ℕ) → IsProp (m < n)
 below-prop m n = hlevel props
 
@@ -44,7 +47,7 @@ AreDifferent forms = (i j : ℕ) → i < j → j < length forms → form_at form
 
 module _ (f : ExactField) where
   space-prop : (w : ℕ) (rs : List (ℕ × (ℕ → Value f))) (v : ℕ → Value f) → IsProp (IsInSpace f.laws w rs v)
-  space-prop w [] v h k = refl
+  space-prop w [] v h k = unit-prop h k
   space-prop w (r ∷ rs) v h k = λ i. (value-set f (dot f.laws w r.1 v) f.laws.nought h.0 k.0 i, space-prop w rs v h.1 k.1 i)
 
   image-prop : (act : Action) (a : ℕ) (u x : List (ℕ × (ℕ → Value f))) → IsProp (IsImageForm f.laws act a u x)

@@ -1,5 +1,5 @@
 -- How many forms are held.
-use Rattle.std.proofs.Common.{◌≡◌, ◌↔◌, ℕ, suc, zero, refl, sym, ◌∙◌, ap, subst, map, ◌+◌, Option, Some, None, ◌<◌, ◌≤◌, ◌⊎◌, inl, inr, Bool, true, List, [], ◌∷◌, ◌++◌, arith, length, get_or}
+use Rattle.std.proofs.Common.{◌≡◌, ◌↔◌, ℕ, sym, ◌∙◌, subst, ◌+◌, Option, Some, None, ◌<◌, ◌≤◌, ◌⊎◌, inl, inr, Bool, true, List, [], ◌∷◌, ◌++◌, arith, length, get_or}
 use Rattle.cyclo24.specs.ExactField.{ExactField, Value}
 use Rattle.lin_alg.specs.Action.{Action}
 use Rattle.lin_alg.specs.Echelon.{EchelonView}
@@ -11,7 +11,7 @@ use Rattle.fix_lattice.proofs.ClosingLemmas.{pairs-bound, once-last}
 use Rattle.fix_lattice.specs.Subspaces.{AreHeld, exact_forms}
 use Rattle.fix_lattice.proofs.FormLemmas.{held-once}
 use Rattle.fix_lattice.specs.FormLaws.{exact-length}
-use Rattle.fix_lattice.proofs.ListLemmas.{each-last}
+use Rattle.fix_lattice.proofs.ListLemmas.{each-last, same-default}
 
 pub known-some : (old new : List (ℕ × ℕ)) (pair : ℕ × ℕ) (r : Option ℕ) (t : ℕ) → r ≡ Some t → IsKnown old new pair r → (new ≡ old) × ((t < length old) × (get_or old t (0, 0) ≡ pair))
 known-some old new pair r t e h = subst (IsKnown old new pair) e h

@@ -1,11 +1,10 @@
 -- Held forms of a program and their exact rows.
-use Rattle.std.proofs.Common.{◌≡◌, ◌↔◌, ℕ, suc, zero, ◌<◌, Bool, true, false, refl, sym, ◌∙◌, ap, subst, List, [], ◌∷◌, ◌++◌, arith, length, slice_get, Some, None, Result, Ok, Err, if◌then◌else◌}
+use Rattle.std.proofs.Common.{◌≡◌, ◌↔◌, ℕ, suc, zero, ◌<◌, Bool, true, false, refl, sym, ◌∙◌, ap, subst, List, [], ◌∷◌, ◌++◌, arith, length, slice_get, Some, Result, Ok, Err, if◌then◌else◌}
 use Rattle.std.specs.List.{IsDistinct, AllByRecursion, list_any}
 use Rattle.cyclo24.specs.ExactField.{ExactField, Value}
 use Rattle.indexmap.specs.IndexSet.{insert_key}
 use Rattle.lin_alg.specs.CompareLaws.{lines-equal, equal-lines}
 use Rattle.lin_alg.specs.Echelon.{EchelonView}
-use Rattle.lin_alg.specs.Reduced.{IsForm}
 use Rattle.lin_alg.specs.Rows.{exact_rows, HaveWidth}
 use Rattle.fix_lattice.specs.Lattice.{form_at}
 use Rattle.fix_lattice.specs.Held.{IsPut}

@@ -4,13 +4,12 @@
 -- singles-start, singles-put: the Fix(q) of single elements
 -- cut-fixed: what two fixed subspaces have in common is one
 -- forms-more, forms-few, singles-few: how many forms there are
-use Rattle.std.proofs.Common.{◌≡◌, ℕ, suc, zero, ◌<◌, ◌≤◌, inl, inr, refl, sym, ◌∙◌, ap, subst, List, [], ◌∷◌, ◌++◌, arith, length, get_or}
+use Rattle.std.proofs.Common.{◌≡◌, ℕ, suc, ◌<◌, ◌≤◌, inl, inr, refl, sym, ◌∙◌, ap, subst, List, [], ◌∷◌, ◌++◌, arith, length, get_or}
 use Rattle.cyclo24.specs.ExactField.{ExactField, Value}
 use Rattle.lin_alg.specs.Action.{Action}
 use Rattle.lin_alg.specs.EquationLaws.{dec}
 use Rattle.lin_alg.specs.Fixed.{IsFixForm}
 use Rattle.lin_alg.specs.Reduced.{IsForm}
-use Rattle.lin_alg.specs.UnionLaws.{lower}
 use Rattle.fix_lattice.specs.Lattice.{form_at, AreMoreFixes, AreMoreSingles}
 use Rattle.fix_lattice.specs.Held.{IsFixSpace, IsSingleSpace, IsMeet, IsGrown, IsPut, IsNoted, HoldsSingles}
 use Rattle.fix_lattice.proofs.ListLemmas.{length-last, each-last}

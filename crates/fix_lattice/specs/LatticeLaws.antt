@@ -3,7 +3,7 @@
 -- fix-vanishes, fix-form, fix-same, meet-form, single-form: forms as equations of Fix(H)
 -- are-more, singles-more, not-more: how many there are
 -- vector-space, space-vector: the two sides of the theorem on stabilisers
-use Rattle.std.proofs.Common.{◌≡◌, ℕ, suc, zero, ◌<◌, ◌≤◌, ◌⊎◌, inl, inr, refl, sym, ap, subst, List, [], ◌∷◌, ◌↔◌, arith, length}
+use Rattle.std.proofs.Common.{◌≡◌, ℕ, suc, zero, ◌<◌, ◌≤◌, ◌⊎◌, inl, inr, sym, ap, subst, List, [], ◌∷◌, ◌↔◌, arith, length}
 use Rattle.algebra.specs.NumberedGroup.{AllBelow}
 use Rattle.algebra.specs.Pigeonhole.{pigeonhole}
 use Rattle.cyclo24.specs.ExactField.{ExactField, Value}
@@ -92,14 +92,12 @@ module _ (f : ExactField) (act : Action) where
   -- n held forms leave no more than n distinct Fix(H)
   pub not-more : (forms : List (List (ℕ × (ℕ → Value f)))) (n : ℕ) → HoldsFixes f.laws act forms → length forms ≤ n → AreMoreFixes f.laws act n → ⊥
   not-more forms n a l m =
-      let place : (i : ℕ) → i < suc n → ℕ = λ i b. (a.each (m.0 i) (m.1 i (omega arith))).0 in
-      let apart : (i j : ℕ) (b : i < suc n) (d : j < suc n) → i < j → place i b ≡ place j d → ⊥ =
+      let found : (i : ℕ) → i < suc n → (k : ℕ) × (k < length forms) × IsFixForm f.laws act (m.0 i) (form_at forms k) = λ i b. a.each (m.0 i) (m.1 i (omega arith)) in
+      let apart : (i j : ℕ) (b : i < suc n) (d : j < suc n) → i < j → (found i b).0 ≡ (found j d).0 → ⊥ =
       λ i j b d g e.
-      let x = a.each (m.0 i) (m.1 i (omega arith)) in
-      let y = a.each (m.0 j) (m.1 j (omega arith)) in
-      m.2 i j g (omega arith) ((fix-same (m.0 i) (m.0 j) (form_at forms x.0) (form_at forms y.0) x.2 y.2).0 (ap (form_at forms) e)) in
+      m.2 i j g (omega arith) ((fix-same (m.0 i) (m.0 j) (form_at forms (found i b).0) (form_at forms (found j d).0) (found i b).2 (found j d).2).0 (ap (form_at forms) e)) in
       let few : suc n ≤ n =
-      pigeonhole (suc n) n place (λ i b. let t = a.each (m.0 i) (m.1 i (omega arith)) in let g = t.1 in omega arith)
+      pigeonhole (suc n) n (λ i b. (found i b).0) (λ i b. let g = (found i b).1 in omega arith)
       (λ i j b d e. elim (order i j) [ inl g ↦ absurd (apart i j b d g e) | inr r ↦ elim r [ inl g ↦ absurd (apart j i d b g (sym e)) | inr s ↦ s ] ]) in
       absurd (omega arith)
 
