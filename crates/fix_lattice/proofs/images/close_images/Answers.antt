@@ -76,3 +76,6 @@ returns-in_err-push-clause-cost g c =
     let act = g.G.Acts.action c.args.acts.now in
     let t = c.loop-i.invariant in
     cost-then (act.dim * length c.args.tables.now.pairs.keys) (act.dim * length c.loop-i.tables.pairs.keys) (act.dim * length c.image_row.new.tables.pairs.keys) c.args.steps.now c.loop-i.steps c.image_row.new.steps t.cost c.in_ok-found.ensures.cost
+
+pub image_row-requires-clause-images : goal.image_row-requires-clause-images
+image_row-requires-clause-images g c = c.loop-i.invariant.images
