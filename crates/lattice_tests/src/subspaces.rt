@@ -60,11 +60,19 @@ fn count(spaces: &Subspaces<K24>, rows: usize) -> usize {
 
 fn has_each(alloc: Global) -> Result<bool, CloseError> {
     let spaces = close_of(alloc, &flips_of_six(), 64)?;
-    Ok(spaces.len() == 64
-        && spaces.width() == 6
-        && spaces.set().len() == 64
-        && are_found(&spaces)
-        && [count(&spaces, 0), count(&spaces, 1), count(&spaces, 2), count(&spaces, 3), count(&spaces, 6)] == [1, 6, 15, 20, 1])
+    Ok(
+        spaces.len() == 64
+            && spaces.width() == 6
+            && spaces.set().len() == 64
+            && are_found(&spaces)
+            && [
+                count(&spaces, 0),
+                count(&spaces, 1),
+                count(&spaces, 2),
+                count(&spaces, 3),
+                count(&spaces, 6),
+            ] == [1, 6, 15, 20, 1],
+    )
 }
 
 #[test]
