@@ -1,0 +1,17 @@
+mod MemberLemmas
+mod GroupLemmas
+mod ClassLemmas
+mod OrderLemmas
+mod UniqueLemmas
+mod PageLemmas
+mod SpaceLemmas
+mod RowLemmas
+mod InsertLemmas
+mod FixLemmas
+mod LeastLemmas
+mod PlaceLemmas
+mod ArrowLemmas
+mod ListLemmas
+mod LengthLemmas
+mod CollectLemmas
+mod AssembleLemmas
