@@ -6,10 +6,8 @@ use Rattle.lin_alg.specs.Action.{Action, IsAction}
 use Rattle.fix_lattice.specs.Lattice.{form_at}
 use Rattle.class_list.specs.declared.arrows.Arrow.{Arrow}
 use Rattle.fix_lattice.specs.Classes.{IsImageForm}
+use Rattle.class_list.proofs.NumberLemmas.{last_or}
 use Rattle.class_list.specs.Images.{IsArrow, HasArrow, AreArrows}
-
-lower : (i n : ℕ) → i < n + 1 → (i < n) ⊎ (i ≡ n)
-lower i n l = grind arith
 
 module _ (f : ExactField) (act : Action) (forms : List (List (ℕ × (ℕ → Value f)))) where
   pub arrows-none : AreArrows f.laws act forms 0 0 []
@@ -30,7 +28,7 @@ module _ (f : ExactField) (act : Action) (forms : List (List (ℕ × (ℕ → Va
         sound = λ x c. elim (Contains-push_cases arrows s x c) [ inl h ↦ t.sound x h | inr h ↦ subst (IsArrow f.laws act forms) h own ];
         each = λ p k a b d. elim d [
           | inl l ↦ kept arrows s p k (t.each p k a b (inl l))
-          | inr h ↦ elim (lower k i h.1) [
+          | inr h ↦ elim (last_or k i h.1) [
             | inl l ↦ kept arrows s p k (t.each p k a b (inr (h.0, l)))
             | inr q ↦ record {
               arrow = s;
@@ -46,7 +44,7 @@ module _ (f : ExactField) (act : Action) (forms : List (List (ℕ × (ℕ → Va
   arrows-round j i arrows l t = record {
     sound = t.sound;
     each = λ p k a b d. elim d [
-      | inl m ↦ elim (lower p j m) [ inl n ↦ t.each p k a b (inl n) | inr e ↦ t.each p k a b (inr (e, omega arith)) ]
+      | inl m ↦ elim (last_or p j m) [ inl n ↦ t.each p k a b (inl n) | inr e ↦ t.each p k a b (inr (e, omega arith)) ]
       | inr h ↦ let m : k < 0 = h.1 in absurd (omega arith)
     ];
   }

@@ -5,6 +5,9 @@ use Rattle.std.specs.declared.cmp.Ordering.TheVariants.{Less, Equal, Greater}
 use Rattle.std.specs.Ordering.{is_gt, is_lt, ordering_reverse}
 use Rattle.std.specs.Cmp.{IsTotalOrder}
 use Rattle.std.proofs.lemmas.Cmp.{upto, tied_itself}
+use Rattle.std.proofs.Math.Logic.{∥∥₁_elim}
+use mathlib.Core.Bool.{Bool-set}
+use Rattle.algebra.specs.GeneratedLaws.{word-below}
 use Rattle.algebra.specs.NumberedGroup.{Group, IsGroup, IsGenerated, AllBelow, word}
 use Rattle.class_list.specs.declared.arrows.Arrow.{Arrow}
 use Rattle.class_list.specs.Arrows.{IsPath}
@@ -41,10 +44,6 @@ module _ (g : Group) (law : IsGroup g) (generators : ℕ) (generator : ℕ → �
   falls : (s : Arrow) → Contains arrows s → is_gt (cmp (L s.to) (L s.from)) ≡ false
   falls s c = not-before o (L s.from) (L s.to) (settled s c)
 
-  word-below : (is : List ℕ) → AllBelow generators is → word g.product generator is < g.order
-  word-below [] b = law.identity_below
-  word-below (p ∷ is) b = law.product_below (generator p) (word g.product generator is) (generator_below p b.0) (word-below is b.1)
-
   -- along a word the least place falls
   walk : (is : List ℕ) → AllBelow generators is → (i : ℕ) → i < n → (k : ℕ) × (k < n) × Conjugates g law (word g.product generator is) (S i) (S k) × (is_gt (cmp (L k) (L i)) ≡ false)
   walk [] b i l = (i, l, conjugates-own g law (S i), ap is_gt (tied_itself o (L i)))
@@ -55,17 +54,17 @@ module _ (g : Group) (law : IsGroup g) (generators : ℕ) (generator : ℕ → �
       let fall : is_gt (cmp (L s.to) (L r.0)) ≡ false = subst (λ (z : ℕ). is_gt (cmp (L s.to) (L z)) ≡ false) t.2 (falls s t.1) in (
         s.to,
         (within s t.1).1,
-        conjugates-then g law (generator p) (word g.product generator is) (S i) (S r.0) (S s.to) (generator_below p b.0) (word-below is b.1) r.2 t.3,
+        conjugates-then g law (generator p) (word g.product generator is) (S i) (S r.0) (S s.to) (generator_below p b.0) (word-below g law generators generator generator_below is b.1) r.2 t.3,
         upto o (L s.to) (L r.0) (L i) fall r.3,
       )
 
   falls-along : (q i j : ℕ) → q < g.order → i < n → j < n → Conjugates g law q (S i) (S j) → is_gt (cmp (L j) (L i)) ≡ false
   falls-along q i j l m k c =
-      let w = generated q l in
+      ∥∥₁_elim (generated q l) (Bool-set (is_gt (cmp (L j) (L i))) false) (λ w.
       let r = walk w.0 w.1 i m in
       let d : Conjugates g law q (S i) (S r.0) = subst (λ (z : ℕ). Conjugates g law z (S i) (S r.0)) (sym w.2) r.2 in
       let e : r.0 ≡ j = apart r.0 j r.1 k (conjugates-one g law q (S i) (S r.0) (S j) l d c) in
-      subst (λ (z : ℕ). is_gt (cmp (L z) (L i)) ≡ false) e r.3
+      subst (λ (z : ℕ). is_gt (cmp (L z) (L i)) ≡ false) e r.3)
 
   -- places of one class have one least place
   pub class-least : (q i j : ℕ) → q < g.order → i < n → j < n → Conjugates g law q (S i) (S j) → L i ≡ L j

@@ -19,6 +19,7 @@ use Rattle.class_list.specs.Collected.{Entry, HasPlace, AreCollected, IsPushed, 
 use Rattle.class_list.specs.Entries.{IsEntryOf}
 use Rattle.class_list.specs.Ranks.{rows_at}
 use Rattle.class_list.specs.Wide.{IsWideStabiliser}
+use Rattle.class_list.proofs.NumberLemmas.{last_or}
 
 -- the rows at a place are those of the form there
 pub rows-found : {A : Type 0} (es : List (EchelonView A)) (i : ℕ) (e : EchelonView A) → slice_get es i ≡ Some e → e.rows ≡ rows_at es i
@@ -43,9 +44,6 @@ wide-fixes f value act es holds i l w =
       | inr a ↦ (w.0, w.1, inr (inr (h.0, form_at (exact_forms f.laws value es) i, h.1, h.2, inr a)))
     ]
 
-below-or : (i n : ℕ) → i < n + 1 → (i < n) ⊎ (i ≡ n)
-below-or i n l = grind arith
-
 false-or : (b : Bool) → (b ≡ true → ⊥) → b ≡ false
 false-or true h = absurd (h refl)
 false-or false h = refl
@@ -56,7 +54,7 @@ distinct-push {K} t xs x s h =
     IsDistinct-from_apart t (xs ++ x ∷ []) (λ i j d a b.
     let size : length (xs ++ x ∷ []) ≡ length xs + 1 = length-append xs (x ∷ []) in
     let left : get_or (xs ++ x ∷ []) i d ≡ get_or xs i d = get_or-append xs (x ∷ []) d i (omega (arith, size)) in
-    elim (below-or j (length xs) (omega (arith, size))) [
+    elim (last_or j (length xs) (omega (arith, size))) [
       | inl l ↦
           let right : get_or (xs ++ x ∷ []) j d ≡ get_or xs j d = get_or-append xs (x ∷ []) d j l in
           (λ z. t (left z) (right z)) ∙ apart_from_distinct t xs i j d s a l
@@ -90,7 +88,7 @@ module _ {A : Type 0} (f : ExactField) (value : A → Value f) (E : A → A → 
   pub collected-skip : (n : ℕ) (xs : List (Entry A)) → (slice_index least n ≡ n → ⊥) → AreCollected f.laws value E act order es least n xs → AreCollected f.laws value E act order es least (n + 1) xs
   collected-skip n xs h c = record {
     from = All-weaker (HasPlace f.laws value act order es least n) (HasPlace f.laws value act order es least (n + 1)) (place-more n) xs c.from;
-    each = λ i l e. elim (below-or i n l) [
+    each = λ i l e. elim (last_or i n l) [
       | inl m ↦ c.each i m e
       | inr s ↦ absurd (h (subst (λ (k : ℕ). slice_index least k ≡ k) s e))
     ];
@@ -106,7 +104,7 @@ module _ {A : Type 0} (f : ExactField) (value : A → Value f) (E : A → A → 
       let last : Q x = record { place = n; below = omega arith; own = own; made = made } in
       let r : AreCollected f.laws value E act order es least (n + 1) (xs ++ x ∷ []) = record {
         from = All-push Q xs x (All-weaker (HasPlace f.laws value act order es least n) Q (place-more n) xs c.from) last;
-        each = λ i m e. elim (below-or i n m) [
+        each = λ i m e. elim (last_or i n m) [
           | inl k ↦ let t = c.each i k e in record { entry = t.entry; there = Contains-append_left xs (x ∷ []) t.entry t.there; made = t.made }
           | inr s ↦ record { entry = x; there = Contains-push xs x; made = subst (λ (k : ℕ). IsEntryOf f.laws value act order (rows_at es k) x.0 x.1) (sym s) made }
         ];

@@ -1,3 +1,4 @@
+mod NumberLemmas
 mod MemberLemmas
 mod GroupLemmas
 mod ClassLemmas

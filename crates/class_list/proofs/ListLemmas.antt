@@ -39,11 +39,9 @@ use Rattle.class_list.proofs.CollectLemmas.{form-rows}
 use Rattle.class_list.proofs.GroupLemmas.{Conjugates, conjugates-back, conjugate-below, conjugate-once}
 use Rattle.class_list.proofs.LengthLemmas.{held-length}
 use Rattle.class_list.proofs.MemberLemmas.{rising-into}
+use Rattle.class_list.proofs.NumberLemmas.{order_of}
 use Rattle.class_list.proofs.OrderLemmas.{equations-tied, equations-written}
 use Rattle.class_list.proofs.SpaceLemmas.{Keeps, keeps-closed, keeps-apart, image-conjugates, direction-form}
-
-order_of : (j k : ℕ) → (j < k) ⊎ ((j ≡ k) ⊎ (k < j))
-order_of j k = grind arith
 
 module _ {A : Type 0} (f : ExactField) (value : A → Value f) where
   width-rows : (w : ℕ) (es : List (EchelonView A)) → AreWholeForms f.laws value w es → (i : ℕ) → HaveWidth w (rows_at es i)

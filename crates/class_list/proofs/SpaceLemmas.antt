@@ -18,13 +18,11 @@ use Rattle.class_list.specs.Directions.{Direction, IsDirection}
 use Rattle.fix_lattice.specs.Classes.{IsImageForm}
 use Rattle.class_list.specs.Stabilisers.{IsInFixedSpace, conjugate}
 use Rattle.class_list.proofs.GroupLemmas.{Conjugates}
+use Rattle.class_list.proofs.NumberLemmas.{order_of}
 
 pub in-below : (n : ℕ) (h : List ℕ) (q : ℕ) → AllBelow n h → IsIn q h → q < n
 in-below n [] q a m = absurd m
 in-below n (p ∷ h) q a m = elim m [ inl e ↦ let l : p < n = a.0 in omega arith | inr k ↦ in-below n h q a.1 k ]
-
-order : (j k : ℕ) → (j < k) ⊎ ((j ≡ k) ⊎ (k < j))
-order j k = grind arith
 
 module _ (f : ExactField) (act : Action) where
   -- q leaves all on which the rows vanish as it is
@@ -64,7 +62,7 @@ module _ (f : ExactField) (act : Action) where
           λ k. (keeps-closed b.0 (form_at forms j) b.1 b.2 v).1 (λ q n h. (e q n).1 h v k),
           λ k. (keeps-closed a.0 (form_at forms i) a.1 a.2 v).1 (λ q n h. (e q n).0 h v k),
         )) in
-        elim (order i j) [
+        elim (order_of i j) [
           | inl n ↦ absurd (holds.once i j n m same)
           | inr (inl n) ↦ n
           | inr (inr n) ↦ absurd (holds.once j i n l (sym same))

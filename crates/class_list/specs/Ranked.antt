@@ -5,10 +5,7 @@
 use Rattle.std.specs.Prelude.{ℕ, List}
 use Rattle.std.specs.declared.cmp.Ordering.{Ordering}
 use Rattle.std.specs.Ordering.{on, then_cmp, nat_cmp}
-use Rattle.std.specs.Cmp.{IsTotalOrder}
-use Rattle.std.proofs.lemmas.Cmp.{on_total, then_total, nat_cmp_total}
 use Rattle.lin_alg.specs.Compared.{lines_cmp}
-use Rattle.lin_alg.specs.CompareLaws.{lines_total}
 use Rattle.class_list.specs.declared.order.Order.{Order}
 use Rattle.class_list.specs.declared.order.Order.TheVariants.{Dimension, Index}
 
@@ -20,6 +17,3 @@ keys_of Index dim moved = (moved, dim)
 -- by the first number, the second, and the entries of the equations
 abbrev pub ranked_cmp : {X A : Type 0} → (X → ℕ) → (X → ℕ) → (X → List (ℕ × List A)) → (A → A → Ordering) → X → X → Ordering
 ranked_cmp first second rows R = then_cmp (on first nat_cmp) (then_cmp (on second nat_cmp) (on rows (lines_cmp R)))
-
-pub ranked_total : {X A : Type 0} (first second : X → ℕ) (rows : X → List (ℕ × List A)) {R : A → A → Ordering} → IsTotalOrder R → IsTotalOrder (ranked_cmp first second rows R)
-ranked_total first second rows o = then_total (on_total first nat_cmp_total) (then_total (on_total second nat_cmp_total) (on_total rows (lines_total o)))

@@ -25,7 +25,7 @@ IsPointwiseStabiliserOf f act U hs = IsRisingListOf act.group.order (FixesAll (I
 
 -- hs is the stabiliser of some vector
 abbrev pub IsIsotropySubgroup : {valid : List ℤ → Bool} → FieldOn (Exact valid) → Action → List ℕ → Type 0
-IsIsotropySubgroup f act hs = (v : ℕ → Exact valid) × IsStabiliserOf f act v hs
+IsIsotropySubgroup {valid} f act hs = (v : ℕ → Exact valid) × IsStabiliserOf f act v hs
 
 -- each member of hs fixes v
 abbrev pub IsInFixedSpace : {valid : List ℤ → Bool} → FieldOn (Exact valid) → Action → List ℕ → (ℕ → Exact valid) → Type 0

@@ -6,7 +6,8 @@ ghost use Rattle.lin_alg.specs.Rows.{exact_rows};
 ghost use Rattle.fix_lattice.specs.Subspaces.{IsWholeForm};
 ghost use Rattle.class_list.specs.declared.errors.ListError.TheVariants as list_error;
 ghost use Rattle.class_list.specs.Entries.{IsEntryOf};
-ghost use Rattle.class_list.specs.Ranked.{keys_of, ranked_cmp, ranked_total};
+ghost use Rattle.class_list.specs.Ranked.{keys_of, ranked_cmp};
+ghost use Rattle.class_list.specs.RankedLaws.{ranked_total};
 ghost use Rattle.class_list.specs.Wide.{IsWideStabiliser};
 
 use crate::{Direction, ListError, Order, stabiliser};
