@@ -1,4 +1,4 @@
-use Rattle.std.proofs.Common.{rules, ◌≡◌, ℕ, ◌<◌, ◌≤◌, ◌⊎◌, inr, true, false, refl, sym, ◌∙◌, subst}
+use Rattle.std.proofs.Common.{rules, below_more, ◌≡◌, ℕ, ◌<◌, ◌≤◌, ◌⊎◌, inr, true, false, refl, sym, ◌∙◌, subst}
 use Rattle.lin_alg.specs.Action.{IsFixed}
 use Rattle.lin_alg.specs.Equations.{Vanishes}
 use Rattle.lin_alg.specs.Fixed.{FixesAll, mover}
@@ -52,3 +52,12 @@ returns-clause-answer g c =
           (spanned-fixes f act q rs (whole-form f.laws v act.dim c.args.equations.now c.requires.form) c.loop-i.i l c.loop-i.invariant),
       λ _. refl,
     )
+
+pub loop-i-preserved : goal.loop-i-preserved
+loop-i-preserved g c =
+    let f = g.F.Field.field in
+    let v = g.F.Field.value in
+    let act = g.G.Acts.action c.args.acts.now in
+    let rs = exact_rows f.laws v c.args.equations.now.rows in
+    below_more (λ k. IsInSpan f.laws (row_vectors rs) (mover f.laws act c.args.q k)) c.loop-i.i c.loop-i.invariant
+    (subst (λ (x : ℕ → _). IsInSpan f.laws (row_vectors rs) x) c.in_ok-mover_row.ensures.exact (c.in_ok-contains.ensures.member.0 c.if-not-branch.false))

@@ -24,4 +24,4 @@ returns-in-Err-Wide-clause-wide g c _ =
     let f = g.F.Field.field in
     let value = g.F.Field.value in
     let old = exact_rows f.laws value c.args.out.now.rows in
-    inr (inr (subst (λ (x : ℕ → _). IsWideInsert f old x) c.in-Ok.ensures.exact (c.in-Err-Wide.ensures.wide (ap Err c.in-Err-Wide.field-0-is))))
+    inr (inr (subst (λ (x : ℕ → _). IsWideInsert f old x) c.in-Ok.ensures.exact (c.in-Err-Wide.ensures.wide (ap Err c.in-Err-Wide.field-0-is)).1))
