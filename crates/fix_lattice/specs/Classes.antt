@@ -29,7 +29,7 @@ HasImage f act forms a u = (j : ℕ) × ((j < length forms) × IsImageForm f act
 
 -- the form at j is cut with each Fix(q): the list has a form that vanishes on what q fixes of the vectors on which it vanishes
 abbrev pub IsCutWithEach : {valid : List ℤ → Bool} → FieldOn (Exact valid) → Action → List (List (ℕ × (ℕ → Exact valid))) → ℕ → Type 0
-IsCutWithEach f act forms j =
+IsCutWithEach {valid} f act forms j =
     (q : ℕ) → q < act.group.order → (d : ℕ) × ((d < length forms)
     × ((v : ℕ → Exact valid) → IsInSpace f act.dim (form_at forms d) v ↔ (IsFixed f act q v × IsInSpace f act.dim (form_at forms j) v)))
 

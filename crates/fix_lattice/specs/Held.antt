@@ -48,12 +48,12 @@ pub record IsPut {K : Type 0} (old : List (List (ℕ × (ℕ → K)))) (x : List
 
 -- what the forms at i and k have in common, a form, was put, and stands at p
 abbrev pub IsCutAt : {valid : List ℤ → Bool} → FieldOn (Exact valid) → Action → List (List (ℕ × (ℕ → Exact valid))) → ℕ → ℕ → List (List (ℕ × (ℕ → Exact valid))) → ℕ → Type 0
-IsCutAt f act old i k new p =
+IsCutAt {valid} f act old i k new p =
     (x : List (ℕ × (ℕ → Exact valid))) × (IsForm f act.dim x × (IsMeet f act.dim (form_at old i) (form_at old k) x × IsPut old x new p))
 
 -- the equations of Fix(q) were put, and stand at p
 abbrev pub IsSingleAt : {valid : List ℤ → Bool} → FieldOn (Exact valid) → Action → ℕ → List (List (ℕ × (ℕ → Exact valid))) → List (List (ℕ × (ℕ → Exact valid))) → ℕ → Type 0
-IsSingleAt f act q old new p = (x : List (ℕ × (ℕ → Exact valid))) × (IsFixForm f act (q ∷ []) x × IsPut old x new p)
+IsSingleAt {valid} f act q old new p = (x : List (ℕ × (ℕ → Exact valid))) × (IsFixForm f act (q ∷ []) x × IsPut old x new p)
 
 -- the forms are as many as before, and nothing was noted; or one more, and x was noted last
 abbrev pub IsNoted : {X : Type 0} → ℕ → ℕ → X → List X → List X → Type 0

@@ -47,8 +47,8 @@ HasStabiliserOf f act rows v = (q : ℕ) → q < act.group.order → FixesAll (I
 
 -- each vector has the pointwise stabiliser of one held space
 abbrev pub HasEachStabiliser : {valid : List ℤ → Bool} → FieldOn (Exact valid) → Action → List (List (ℕ × (ℕ → Exact valid))) → Type 0
-HasEachStabiliser f act forms = (v : ℕ → Exact valid) → (i : ℕ) × (i < length forms) × HasStabiliserOf f act (form_at forms i) v
+HasEachStabiliser {valid} f act forms = (v : ℕ → Exact valid) → (i : ℕ) × (i < length forms) × HasStabiliserOf f act (form_at forms i) v
 
 -- the pointwise stabiliser of each held space is the stabiliser of one of its vectors
 abbrev pub AreStabilisers : {valid : List ℤ → Bool} → FieldOn (Exact valid) → Action → List (List (ℕ × (ℕ → Exact valid))) → Type 0
-AreStabilisers f act forms = (i : ℕ) → i < length forms → (v : ℕ → Exact valid) × IsInSpace f act.dim (form_at forms i) v × HasStabiliserOf f act (form_at forms i) v
+AreStabilisers {valid} f act forms = (i : ℕ) → i < length forms → (v : ℕ → Exact valid) × IsInSpace f act.dim (form_at forms i) v × HasStabiliserOf f act (form_at forms i) v
