@@ -18,7 +18,7 @@ loop-j-init g c =
     let v = g.F.Field.value in
     let act = g.G.Acts.action c.args.acts.now in
     let forms = exact_forms f.laws v c.args.spaces.now.forms in
-    (subst (λ (xs : List Arrow). AreArrows f.laws act forms 0 0 xs) (sym c.new-arrows.ensures.items) (arrows-none f act forms), omega arith, omega arith, omega arith)
+    (subst (λ (xs : List Arrow). AreArrows f.laws act forms 0 0 xs) (sym c.new-arrows.ensures.items) (arrows-none f act forms), omega (arith, c.in_ok-line.line.ok.0, c.in_ok-line.ensures.len, c.dim.ensures), omega (arith, c.in_ok-row.row.ok.0, c.in_ok-row.ensures.len, c.dim-2.ensures), omega arith)
 
 pub loop-j-preserved : goal.loop-j-preserved
 loop-j-preserved g c =

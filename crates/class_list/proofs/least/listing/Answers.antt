@@ -2,6 +2,7 @@ use Rattle.std.proofs.Common.{◌≡◌, ◌<◌, ℕ, List, [], ◌∷◌, leng
 use Rattle.std.proofs.lemmas.List.Sorted.{IsPermutation-map}
 use Rattle.cyclo24.specs.ExactField.{ExactField, Value}
 use Rattle.lin_alg.specs.RowLaws.{equality-told}
+use Rattle.lin_alg.specs.Echelon.{EchelonView}
 use Rattle.fix_lattice.specs.FormLaws.{exact-length}
 use Rattle.fix_lattice.specs.Subspaces.{AreWholeForms, exact_forms}
 use Rattle.class_list.specs.declared.arrows.Arrow.{Arrow}
