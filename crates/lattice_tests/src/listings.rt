@@ -71,6 +71,7 @@ fn has_rows<const N: usize>(form: &Echelon<K24>, rows: &[[i8; N]]) -> bool {
 }
 
 // A direction as it is expected: its stabiliser and its equations.
+#[derive(Drop)]
 struct Expected<'a, const N: usize> {
     stabiliser: &'a [usize],
     equations: &'a [[i8; N]],

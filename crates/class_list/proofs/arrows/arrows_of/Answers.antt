@@ -1,4 +1,4 @@
-use Rattle.std.proofs.Common.{◌≡◌, ◌≤◌, ◌+◌, ◌*◌, List, length, sym, subst, arith}
+use Rattle.std.proofs.Common.{◌≡◌, ℕ, ◌≤◌, ◌+◌, ◌*◌, List, length, sym, subst, arith}
 use Rattle.fix_lattice.specs.Subspaces.{exact_forms}
 use Rattle.class_list.specs.declared.arrows.Arrow.{Arrow}
 use Rattle.class_list.specs.Images.{AreArrows}
@@ -29,3 +29,13 @@ loop-j-preserved g c =
     let b : c.loop-j.steps ≤ c.args.steps.now + act.dim * n * j = c.loop-j.invariant.3 in
     let d : act.dim * n * (j + 1) ≡ act.dim * n * j + act.dim * n = grind arith in
     (c.in-Ok.ensures.arrows, c.loop-j.invariant.1, c.loop-j.invariant.2, omega (arith, a, b, d))
+
+pub returns-clause-arrows : goal.returns-clause-arrows
+returns-clause-arrows g c =
+    let f = g.F.Field.field in
+    let v = g.F.Field.value in
+    let act = g.G.Acts.action c.args.acts.now in
+    let forms = exact_forms f.laws v c.args.spaces.now.forms in
+    let e : c.generators-j-end.result ≡ act.generators = c.generators-j-end.ensures in
+    let n : c.loop-j.j ≡ act.generators = omega (arith, e) in
+    subst (λ (k : ℕ). AreArrows f.laws act forms k 0 c.loop-j.arrows.items) n c.loop-j.invariant.0
