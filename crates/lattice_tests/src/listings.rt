@@ -156,7 +156,7 @@ const MIRROR: [[i8; 4]; 1] = [[-1, 1, 0, 0]];
 const ALL: [usize; 12] = [0, 1, 2, 3, 4, 5, 6, 7, 8, 9, 10, 11];
 
 // What is expected of this stabiliser and these equations.
-fn expected<'a>(stabiliser: &'a [usize], equations: &'a [[i8; 4]]) -> Expected<'a, 4> {
+fn wanted<'a>(stabiliser: &'a [usize], equations: &'a [[i8; 4]]) -> Expected<'a, 4> {
     Expected {
         stabiliser,
         equations,
@@ -168,12 +168,12 @@ fn lists_prism_by_dimension(listing: &Listing<K24>) -> bool {
     are_expected(
         listing,
         &[
-            expected(&ALL, &ZERO),
-            expected(&[0, 3, 6, 9], &LINE),
-            expected(&[0, 1, 2, 3, 4, 5], &ROTATIONS),
-            expected(&[0, 6], &PLANE),
-            expected(&[0, 3], &MIRROR),
-            expected(&[0], &[]),
+            wanted(&ALL, &ZERO),
+            wanted(&[0, 3, 6, 9], &LINE),
+            wanted(&[0, 1, 2, 3, 4, 5], &ROTATIONS),
+            wanted(&[0, 6], &PLANE),
+            wanted(&[0, 3], &MIRROR),
+            wanted(&[0], &[]),
         ],
     )
 }
@@ -183,12 +183,12 @@ fn lists_prism_by_index(listing: &Listing<K24>) -> bool {
     are_expected(
         listing,
         &[
-            expected(&ALL, &ZERO),
-            expected(&[0, 1, 2, 3, 4, 5], &ROTATIONS),
-            expected(&[0, 3, 6, 9], &LINE),
-            expected(&[0, 6], &PLANE),
-            expected(&[0, 3], &MIRROR),
-            expected(&[0], &[]),
+            wanted(&ALL, &ZERO),
+            wanted(&[0, 1, 2, 3, 4, 5], &ROTATIONS),
+            wanted(&[0, 3, 6, 9], &LINE),
+            wanted(&[0, 6], &PLANE),
+            wanted(&[0, 3], &MIRROR),
+            wanted(&[0], &[]),
         ],
     )
 }
