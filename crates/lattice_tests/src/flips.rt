@@ -25,6 +25,13 @@ pub fn flips_of_six() -> Flips
     Flips { dim: 6, order: 64 }
 }
 
+// All sign changes of two coordinates.
+pub fn flips_of_two() -> Flips
+    ensures { result.dim ≡ 2 }
+{
+    Flips { dim: 2, order: 4 }
+}
+
 // The sign by which element q acts on coordinate i.
 fn sign<F: Field>(q: usize, i: usize) -> F
     requires { i < 64 }
