@@ -1,6 +1,6 @@
 -- How long rising lists of numbers are.
 use Rattle.std.proofs.Common.{◌≡◌, ℕ, ◌<◌, ◌≤◌, List, length, get_or, sym, ◌∙◌, ap}
-use Rattle.algebra.specs.Pigeonhole.{pigeonhole}
+use Rattle.algebra.specs.PigeonholeLaws.{pigeonhole}
 use Rattle.algebra.specs.RisingLists.{IsRisingListOf}
 use Rattle.algebra.specs.RisingListLaws.{list-injective}
 

@@ -4,7 +4,7 @@
 use Rattle.std.proofs.Common.{◌≡◌, ℕ, ◌<◌, ◌≤◌, ◌⊎◌, inl, inr, ◌+◌, ◌*◌, ◌/◌, ◌%◌, sym, ◌∙◌, ap, subst, arith}
 use Rattle.std.proofs.Math.Nat.{mul_comm}
 use Rattle.std.proofs.lemmas.Nat.{mul-add-lt, div-mul-add, mod-mul-add}
-use Rattle.algebra.specs.Pigeonhole.{pigeonhole}
+use Rattle.algebra.specs.PigeonholeLaws.{pigeonhole}
 
 order : (i j : ℕ) → (i < j) ⊎ ((j < i) ⊎ (i ≡ j))
 order i j = grind arith

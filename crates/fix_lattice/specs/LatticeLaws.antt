@@ -5,7 +5,7 @@
 -- vector-space, space-vector: the two sides of the theorem on stabilisers
 use Rattle.std.proofs.Common.{◌≡◌, ℕ, suc, zero, ◌<◌, ◌≤◌, ◌⊎◌, inl, inr, sym, ap, subst, List, [], ◌∷◌, ◌↔◌, arith, length}
 use Rattle.algebra.specs.NumberedGroup.{AllBelow}
-use Rattle.algebra.specs.Pigeonhole.{pigeonhole}
+use Rattle.algebra.specs.PigeonholeLaws.{pigeonhole}
 use Rattle.cyclo24.specs.ExactField.{ExactField, Value}
 use Rattle.lin_alg.specs.Action.{Action, IsFixed}
 use Rattle.lin_alg.specs.EquationLaws.{vanish-subspace, dec}
