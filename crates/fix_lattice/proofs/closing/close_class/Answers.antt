@@ -1,4 +1,5 @@
-use Rattle.std.proofs.Common.{◌≡◌, ◌<◌, ◌≤◌, ◌*◌, length, map, arith}
+use Rattle.std.proofs.Common.{◌≡◌, ◌<◌, ◌≤◌, ◌*◌, ℕ, List, Vec, Global, sym, subst, length, map, arith}
+use Rattle.fix_lattice.specs.Classes.{AreImages}
 use Rattle.std.proofs.lemmas.List.{length-map}
 use Rattle.fix_lattice.proofs.ClosingLemmas.{images-grown, covered-grown, reached-own, grown-each}
 use Rattle.fix_lattice.proofs.HeldLemmas.{grown-then}
@@ -204,3 +205,10 @@ returns-clause-reached g c =
     let at_new : c.args.at < length new = omega arith in
     let own = reached-own f act law new c.args.at at_new (grown-each f act mid new grown-2 c.args.at at_mid c.in_ok-cut_each.ensures.cut) in
     own
+
+pub cover-requires-clause-images : goal.cover-requires-clause-images
+cover-requires-clause-images g c =
+    let f = g.F.Field.field in
+    let v = g.F.Field.value in
+    let act = g.G.Acts.action c.args.acts.now in
+    subst (λ (z : List (Vec ℕ Global)). AreImages f.laws act (exact_forms f.laws v c.close_images.new.tables.held.keys) (map (λ r. r.items) z)) (sym c.deref.ensures.value) c.in_ok-close_images.ensures.images

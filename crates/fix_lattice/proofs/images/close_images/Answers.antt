@@ -1,4 +1,4 @@
-use Rattle.std.proofs.Common.{◌≡◌, ◌<◌, ◌≤◌, ◌*◌, ℕ, sym, ◌∙◌, ap, subst, length, map, arith, add-one, suc}
+use Rattle.std.proofs.Common.{◌≡◌, ◌<◌, ◌≤◌, ◌*◌, ℕ, List, Vec, Global, sym, ◌∙◌, ap, subst, length, map, arith, add-one, suc}
 use Rattle.std.proofs.lemmas.List.{length-map}
 use Rattle.lin_alg.specs.RowLaws.{equality-told}
 use Rattle.fix_lattice.specs.Classes.{IsImageRow, AreImages}
@@ -78,4 +78,8 @@ returns-in_err-push-clause-cost g c =
     cost-then (act.dim * length c.args.tables.now.pairs.keys) (act.dim * length c.loop-i.tables.pairs.keys) (act.dim * length c.image_row.new.tables.pairs.keys) c.args.steps.now c.loop-i.steps c.image_row.new.steps t.cost c.in_ok-found.ensures.cost
 
 pub image_row-requires-clause-images : goal.image_row-requires-clause-images
-image_row-requires-clause-images g c = c.loop-i.invariant.images
+image_row-requires-clause-images g c =
+    let f = g.F.Field.field in
+    let v = g.F.Field.value in
+    let act = g.G.Acts.action c.args.acts.now in
+    subst (λ (z : List (Vec ℕ Global)). AreImages f.laws act (exact_forms f.laws v c.loop-i.tables.held.keys) (map (λ r. r.items) z)) (sym c.deref.ensures.value) c.loop-i.invariant.images
