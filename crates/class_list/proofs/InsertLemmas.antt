@@ -1,6 +1,5 @@
 -- Rows inserted in order, and rows of a form by their places.
-use Rattle.std.proofs.Common.{◌≡◌, ◌↔◌, ℕ, suc, zero, ◌<◌, ◌+◌, refl, sym, ◌∙◌, ap, List, [], ◌∷◌, length, get_or, arith, below_more, Result, Ok, Err}
-use Rattle.cyclo24.specs.FieldOn.{FieldOn}
+use Rattle.std.proofs.Common.{◌≡◌, ◌↔◌, ℕ, suc, zero, ◌<◌, ◌+◌, refl, ap, List, [], ◌∷◌, length, get_or, arith, below_more, Result, Ok, Err}
 use Rattle.cyclo24.specs.ExactField.{ExactField, Value}
 use Rattle.lin_alg.specs.Action.{Action}
 use Rattle.lin_alg.specs.Equations.{dot, Vanishes}
