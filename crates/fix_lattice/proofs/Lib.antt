@@ -1,0 +1,12 @@
+mod ListLemmas
+mod PairLemmas
+mod FormLemmas
+mod InsertLemmas
+mod MoverLemmas
+mod HeldLemmas
+mod ClassLemmas
+mod ClosingLemmas
+mod CutLemmas
+mod CountLemmas
+mod CostLemmas
+mod ReachLemmas

@@ -1,0 +1,7 @@
+pub mod Lattice
+pub mod Subspaces
+pub mod Wide
+pub mod LatticeLaws
+pub mod FormLaws
+pub mod Held
+pub mod Classes
