@@ -1,6 +1,7 @@
 -- Sign changes are an action.
 --
 -- flips_lawful: the laws of an action hold
+-- entry-value: the entries of the matrices as values
 -- flip_first, flip_second: the sign of a digit, by cases
 -- flip_row: a row of zeros but for one sign
 use Rattle.std.proofs.Common.{◌≡◌, refl, sym, ap, ◌∙◌, subst, ℕ, zero, suc, ◌<◌, ◌≤◌, ◌+◌, ◌-◌, ◌*◌, ◌^◌, ◌%◌, ◌⊎◌, inl, inr, Bool, true, false, ℤ, List, [], ◌∷◌, length, set, map, get_or, nat_eq, if◌then◌else◌, arith}
@@ -93,7 +94,8 @@ module _ (f : ExactField) where
   entry-other q i j n = ap (λ b. if b then flip_sign f (bit_at q i) else f.laws.nought) (eq-other i j n)
 
   module _ (n : ℕ) where
-    entry-value : (q i j : ℕ) → entry_of f.laws (flips f n) q i j ≡ flip_entry f q i j
+    -- the entries of the matrices as values
+    pub entry-value : (q i j : ℕ) → entry_of f.laws (flips f n) q i j ≡ flip_entry f q i j
     entry-value q i j = lift-value (flip_entry f q i j)
 
     unit : AreEqualBelow n (entry_of f.laws (flips f n) 0) (unit_entry f.laws)

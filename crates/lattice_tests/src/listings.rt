@@ -44,12 +44,12 @@ fn listing_by<F: Field, G: Acts<F>, L: Ledger>(
     }
 }
 
-// Whether a row has these entries.
-fn has_entries(row: &[K24], entries: &[i8]) -> bool {
-    if row.len() != entries.len() {
+// Whether a row has these entries; those behind its last are 0.
+fn has_entries(row: &[K24], entries: &[i8; 4]) -> bool {
+    if row.len() > 4 {
         return false;
     }
-    for (x, n) in row.iter().zip(entries) {
+    for (x, n) in row.iter().zip(entries.as_slice()) {
         if *x != K24::small(*n) {
             return false;
         }
@@ -58,7 +58,7 @@ fn has_entries(row: &[K24], entries: &[i8]) -> bool {
 }
 
 // Whether a form has these rows.
-fn has_rows<const N: usize>(form: &Echelon<K24>, rows: &[[i8; N]]) -> bool {
+fn has_rows(form: &Echelon<K24>, rows: &[[i8; 4]]) -> bool {
     if form.len() != rows.len() {
         return false;
     }
@@ -72,25 +72,34 @@ fn has_rows<const N: usize>(form: &Echelon<K24>, rows: &[[i8; N]]) -> bool {
 
 // A direction as it is expected: its stabiliser and its equations.
 #[derive(Drop)]
-struct Expected<'a, const N: usize> {
+struct Expected<'a> {
     stabiliser: &'a [usize],
-    equations: &'a [[i8; N]],
+    equations: &'a [[i8; 4]],
 }
 
-fn is_expected<const N: usize>(direction: &Direction<K24>, expected: &Expected<N>) -> bool {
-    direction.dim() + expected.equations.len() == N
+// What is expected of this stabiliser and these equations.
+fn wanted<'a>(stabiliser: &'a [usize], equations: &'a [[i8; 4]]) -> Expected<'a> {
+    Expected {
+        stabiliser,
+        equations,
+    }
+}
+
+// Whether a direction of vectors of so many coordinates is as expected.
+fn is_expected(direction: &Direction<K24>, coordinates: usize, expected: &Expected) -> bool {
+    direction.dim().checked_add(expected.equations.len()) == Some(coordinates)
         && direction.order() == expected.stabiliser.len()
         && direction.stabiliser() == expected.stabiliser
         && has_rows(direction.equations(), expected.equations)
 }
 
 // Whether a listing has these directions, in this order.
-fn are_expected<const N: usize>(listing: &Listing<K24>, expected: &[Expected<N>]) -> bool {
+fn are_expected(listing: &Listing<K24>, coordinates: usize, expected: &[Expected]) -> bool {
     if listing.len() != expected.len() {
         return false;
     }
     for i in 0..listing.len() {
-        if !is_expected(listing.get(i), &expected[i]) {
+        if !is_expected(listing.get(i), coordinates, &expected[i]) {
             return false;
         }
     }
@@ -101,23 +110,12 @@ fn are_expected<const N: usize>(listing: &Listing<K24>, expected: &[Expected<N>]
 fn lists_flips(listing: &Listing<K24>) -> bool {
     are_expected(
         listing,
+        2,
         &[
-            Expected {
-                stabiliser: &[0, 1, 2, 3],
-                equations: &[[1, 0], [0, 1]],
-            },
-            Expected {
-                stabiliser: &[0, 2],
-                equations: &[[0, 1]],
-            },
-            Expected {
-                stabiliser: &[0, 1],
-                equations: &[[1, 0]],
-            },
-            Expected {
-                stabiliser: &[0],
-                equations: &[],
-            },
+            wanted(&[0, 1, 2, 3], &[[1, 0, 0, 0], [0, 1, 0, 0]]),
+            wanted(&[0, 2], &[[0, 1, 0, 0]]),
+            wanted(&[0, 1], &[[1, 0, 0, 0]]),
+            wanted(&[0], &[]),
         ],
     )
 }
@@ -133,8 +131,9 @@ fn sign_changes_of_two_coordinates(rt: HostRuntime) -> Result<(), Fail> {
 
 #[test]
 fn pages_of_a_listing(rt: HostRuntime) -> Result<(), Fail> {
-    let listing =
-        listing_of::<K24, Flips>(rt.alloc(), &flips_of_two(), Order::Dimension).ok_or("none")?;
+    let listing = listing_of::<K24, Flips>(rt.alloc(), &flips_of_two(), Order::Dimension).ok_or(
+        "none",
+    )?;
     assert!(rt; listing.page(0, None) == (0, 4));
     assert!(rt; listing.page(1, Some(2)) == (1, 3));
     assert!(rt; listing.page(3, Some(2)) == (3, 4));
@@ -148,25 +147,22 @@ fn pages_of_a_listing(rt: HostRuntime) -> Result<(), Fail> {
 // the two coordinates that the rotations keep, of the plane of the triangle, and of what one upright
 // mirror keeps.
 const ZERO: [[i8; 4]; 4] = [[1, 0, 0, 0], [0, 1, 0, 0], [0, 0, 1, 0], [0, 0, 0, 1]];
+
 const LINE: [[i8; 4]; 3] = [[-1, 1, 0, 0], [0, 0, 1, 0], [0, 0, 0, 1]];
+
 const ROTATIONS: [[i8; 4]; 2] = [[1, 0, 0, 0], [0, 1, 0, 0]];
+
 const PLANE: [[i8; 4]; 2] = [[0, 0, 1, 0], [0, 0, 0, 1]];
+
 const MIRROR: [[i8; 4]; 1] = [[-1, 1, 0, 0]];
 
 const ALL: [usize; 12] = [0, 1, 2, 3, 4, 5, 6, 7, 8, 9, 10, 11];
-
-// What is expected of this stabiliser and these equations.
-fn wanted<'a>(stabiliser: &'a [usize], equations: &'a [[i8; 4]]) -> Expected<'a, 4> {
-    Expected {
-        stabiliser,
-        equations,
-    }
-}
 
 // By dimension: 0, 1, 2, 2, 3, 4, with stabilisers of the orders 12, 4, 6, 2, 2, 1.
 fn lists_prism_by_dimension(listing: &Listing<K24>) -> bool {
     are_expected(
         listing,
+        4,
         &[
             wanted(&ALL, &ZERO),
             wanted(&[0, 3, 6, 9], &LINE),
@@ -182,6 +178,7 @@ fn lists_prism_by_dimension(listing: &Listing<K24>) -> bool {
 fn lists_prism_by_index(listing: &Listing<K24>) -> bool {
     are_expected(
         listing,
+        4,
         &[
             wanted(&ALL, &ZERO),
             wanted(&[0, 1, 2, 3, 4, 5], &ROTATIONS),
@@ -195,8 +192,9 @@ fn lists_prism_by_index(listing: &Listing<K24>) -> bool {
 
 #[test]
 fn prism_in_both_orders(rt: HostRuntime) -> Result<(), Fail> {
-    let by_dimension =
-        listing_of::<K24, Prism>(rt.alloc(), &Prism, Order::Dimension).ok_or("none")?;
+    let by_dimension = listing_of::<K24, Prism>(rt.alloc(), &Prism, Order::Dimension).ok_or(
+        "none",
+    )?;
     assert!(rt; lists_prism_by_dimension(&by_dimension));
     let by_index = listing_of::<K24, Prism>(rt.alloc(), &Prism, Order::Index).ok_or("none")?;
     assert!(rt; lists_prism_by_index(&by_index));

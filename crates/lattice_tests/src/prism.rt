@@ -3,9 +3,7 @@ ghost use Rattle.lattice_tests.specs.Prisms.{prism};
 ghost use Rattle.lattice_tests.specs.PrismLaws.{prism_lawful};
 ghost use Rattle.lattice_tests.specs.Tables.{action_of};
 
-use crate::tables::{
-    PRISM_ENTRIES, PRISM_GENERATORS, PRISM_INVERSE, PRISM_PRODUCT,
-};
+use crate::tables::{PRISM_ENTRIES, PRISM_GENERATORS, PRISM_INVERSE, PRISM_PRODUCT};
 use crate::writing::write_row;
 use cyclo24::{Field, Wide};
 use lin_alg::Acts;

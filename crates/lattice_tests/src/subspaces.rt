@@ -1,5 +1,5 @@
 // The fixed subspaces of all sign changes of six coordinates: one for each set of coordinates that are 0.
-ghost use Rattle.std.specs.Prelude.{◌≡◌, ◌<◌, ◌≤◌};
+ghost use Rattle.std.specs.Prelude.{◌≡◌, ◌<◌, ◌≤◌, ◌^◌};
 
 use crate::flips::{Flips, flips_of_six};
 use cyclo24::{Field, K24};
@@ -14,6 +14,7 @@ use std::test::Fail;
 // Closes with a counter of its own.
 fn close_of(alloc: Global, acts: &Flips, limit: usize) -> Result<Subspaces<K24>, CloseError>
     requires dim { acts.now.dim ≡ 6 }
+    requires order { 2 ^ acts.now.dim ≡ 64 }
     requires some { 0 < limit }
     requires limit { limit ≤ 16384 }
 {
@@ -30,6 +31,7 @@ fn close_by<L: Ledger>(
     requires parts { blank.parts ≡ L.parts }
     requires shares { 0 < blank.parts }
     requires dim { acts.now.dim ≡ 6 }
+    requires order { 2 ^ acts.now.dim ≡ 64 }
     requires some { 0 < limit }
     requires limit { limit ≤ 16384 }
 {
@@ -102,10 +104,10 @@ fn the_set_is_looked_up(rt: HostRuntime) {
 fn rows_of_the_difference(rt: HostRuntime) -> Result<(), Fail> {
     let acts = flips_of_six();
     let mut row = [K24::zero(); 6];
-    mover_row(&acts, 5, 2, &mut row)?;
+    mover_row::<K24, Flips>(&acts, 5, 2, &mut row)?;
     let zero = K24::zero();
     assert!(rt; row == [zero, zero, K24::ratio(-2, 1), zero, zero, zero]);
-    mover_row(&acts, 5, 1, &mut row)?;
+    mover_row::<K24, Flips>(&acts, 5, 1, &mut row)?;
     assert!(rt; row == [zero; 6]);
     Ok(())
 }
