@@ -1,0 +1,11 @@
+pub mod CarryLemmas
+pub mod ScaledLemmas
+pub mod LineLemmas
+pub mod ReadLemmas
+pub mod PairLemmas
+pub mod ResultLemmas
+pub mod PlaceLemmas
+pub mod RepLemmas
+pub mod MissingLemmas
+pub mod PairCheckLemmas
+pub mod CharacterLemmas
