@@ -1,8 +1,8 @@
 // Listings worked out by hand, in both orders, and their pages.
 ghost use Rattle.std.specs.Prelude.{◌≡◌, ◌<◌, ◌≤◌};
 
-use crate::Prism;
 use crate::flips::{Flips, flips_of_two};
+use crate::prism::Prism;
 use class_list::{Direction, Listing, Order, listing, stabiliser};
 use cyclo24::{Field, K24};
 use fix_lattice::close;

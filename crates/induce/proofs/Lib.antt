@@ -1,0 +1,13 @@
+pub mod ListLemmas
+pub mod PartLemmas
+pub mod TableLemmas
+pub mod ArmLemmas
+pub mod MoveLemmas
+pub mod PlaceLemmas
+pub mod ProductLemmas
+pub mod CharacterLemmas
+pub mod WeightLemmas
+pub mod ErrLemmas
+pub mod KindLemmas
+pub mod SumLemmas
+pub mod NewLemmas

@@ -1,0 +1,27 @@
+use Rattle.std.proofs.Common.{◌≡◌, subst, sym, length, rules}
+use Rattle.std.proofs.lemmas.List.Elements.{All-nil}
+use Rattle.lin_alg.specs.declared.errors.LinError.TheVariants as lin_error
+use Rattle.induce.specs.Weights.{AreWeights, IsKnown, AreKnown}
+use Rattle.induce.proofs.ErrLemmas.{err_again}
+use Rattle.induce.proofs.WeightLemmas.{weights_none}
+use Rattle.induce.proofs.weights.form_weights.Goals as goal
+
+pub loop-d-init : goal.loop-d-init
+loop-d-init c = record { formed = weights_none c.args.characters.now c.new.result.items c.new.ensures.items; paired = subst AreKnown (sym c.new-2.ensures.items) (All-nil IsKnown) }
+
+pub with_weight-requires-clause-held : goal.with_weight-requires-clause-held
+with_weight-requires-clause-held c = c.loop-d.invariant.formed
+
+pub with_weight-requires-clause-known : goal.with_weight-requires-clause-known
+with_weight-requires-clause-known c = c.loop-d.invariant.paired
+
+pub returns-in-Err-clause-wide : goal.returns-in-Err-clause-wide
+returns-in-Err-clause-wide c e = (c.loop-d.d, c.loop-d-test.true, c.in-Err.ensures.wide (err_again c.in-Err.error lin_error.Wide e))
+
+pub loop-d-preserved : goal.loop-d-preserved
+loop-d-preserved c = record { formed = c.in-Ok.ensures.weights; paired = c.in-Ok.ensures.known }
+
+pub returns-clause-weights : goal.returns-clause-weights
+returns-clause-weights c =
+    let e : c.loop-d.d ≡ length c.args.characters.now = search rules in
+    subst (AreWeights c.args.characters.now c.loop-d.held.weights.items) e c.loop-d.invariant.formed
