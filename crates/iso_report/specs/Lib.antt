@@ -3,8 +3,14 @@ pub mod Steps
 pub mod StepLaws
 pub mod Contexts
 pub mod Generators
+pub mod IrrepSteps
+pub mod Irreps
 pub mod Stages
+pub mod Fractions
+pub mod IrrepReport
 pub mod Check
+pub mod Held
+pub mod HeldFiles
 pub mod SignAction
 pub mod SignListing
 pub mod SignRep
