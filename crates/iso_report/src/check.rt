@@ -1,11 +1,14 @@
 // The report of `check`.
-ghost use Rattle.std.specs.Prelude.{◌≡◌, ◌≤◌, ◌++◌, [], IfOk, OnOk, length, flat_map, codes, decimal};
+ghost use Rattle.std.specs.Prelude.{◌≡◌, ◌≤◌, ◌++◌, [], IfOk, OnOk, length, map, flat_map, codes, decimal};
 ghost use Rattle.space_ops.specs.Lattice.{centrings_of};
 ghost use Rattle.space_ops.specs.OpText.{text_of};
 ghost use Rattle.iso_report.specs.Check.{first_line, lattice_line, listed_line, supercell_line, check_text};
+ghost use Rattle.iso_report.specs.Held.{facts_in};
+ghost use Rattle.iso_report.specs.HeldFiles.{AreInducedHeld};
 ghost use Rattle.iso_text.specs.Lines.{line};
 
-use crate::context::Divided;
+use crate::context::InducedFile;
+use crate::irrep_report::irreps_text;
 use iso_text::{NoMemory, Text};
 use space_ops::{Group, Lattice, Op};
 use std::alloc::Global;
@@ -75,20 +78,22 @@ fn push_listed(alloc: Global, text: &mut Text, group: &Group) -> Result<(), NoMe
     Ok(())
 }
 
-/// The report of `check` on a parent group and its quotient: the lattice, the operations, the
-/// multipliers of the supercell and the order of the quotient.
-pub fn check_report(alloc: Global, divided: &Divided) -> Result<Text, NoMemory>
-    ensures { IfOk result (λ text. text ≡ check_text divided.now) }
+/// The report of `check`: the lattice, the operations, the multipliers of the supercell and the
+/// order of the quotient, and each irrep with its arms.
+pub fn check_report(alloc: Global, file: &InducedFile) -> Result<Text, NoMemory>
+    requires { AreInducedHeld file.now }
+    ensures { IfOk result (λ text. text ≡ check_text file.now.divided (map facts_in file.now.irreps.items)) }
 {
-    let quotient = &divided.quotient;
+    let quotient = &file.divided.quotient;
     let group = quotient.group();
     let lattice = group.lattice();
     let rotations = group.len();
-    let mut text = first_line(alloc, divided.document.format())?;
+    let mut text = first_line(alloc, file.divided.document.format())?;
     text.push(b"\n")?;
     text.push(lattice_text(alloc, lattice, rotations)?.as_slice())?;
     text.push(b"\n")?;
     push_listed(alloc, &mut text, group)?;
     text.push(supercell_text(alloc, quotient.d(), quotient.order())?.as_slice())?;
+    text.push(irreps_text(alloc, file)?.as_slice())?;
     Ok(text)
 }
