@@ -1,10 +1,11 @@
 -- Steps over the items of a list, and lists whose items at one place are related.
-use Rattle.std.proofs.Common.{◌≡◌, refl, sym, ap, ◌∙◌, subst, ℕ, zero, suc, ◌+◌, ◌<◌, ◌≤◌, List, [], ◌∷◌, ◌++◌, length, take, drop, get_or, map, arith, add-one}
+use Rattle.std.proofs.Common.{◌≡◌, inl, inr, refl, sym, ap, ◌∙◌, subst, ℕ, zero, suc, ◌+◌, ◌<◌, ◌≤◌, List, [], ◌∷◌, ◌++◌, length, take, drop, get_or, map, arith, add-one}
 use Rattle.std.proofs.Math.Seq.{take-suc, drop-cons}
 use Rattle.std.proofs.lemmas.List.{take-append-drop, take_all}
 use Rattle.std.specs.Prelude.{All, Contains}
 use Rattle.iso_report.specs.declared.refusal.Refusal.{Refusal}
-use Rattle.iso_report.specs.IrrepSteps.{IsFirstRefused, Each}
+use Rattle.iso_report.specs.IrrepSteps.{IsFirstRefused, IsWideAmong, Each}
+use Rattle.iso_report.specs.Steps.{OrWide}
 
 -- ---- related lists
 
@@ -42,6 +43,13 @@ each-next {A} {B} R xs ys i x y l e h =
 pub each-none : {A B : Type 0} (R : A → B → Type 0) (xs : List A) (i : ℕ) (x : A) → i < length xs → Each R (drop i xs) [] → ⊥
 each-none {A} R xs i x l h = let P : List A → Type 0 = λ zs. Each R zs [] in subst P (drop-cons xs i x l) h
 
+-- a relation of another thing that is the same, and another list that is the same
+pub each-moved : {A B C : Type 0} (R : C → A → B → Type 0) (c d : C) (xs zs : List A) (ys : List B) → c ≡ d → xs ≡ zs → Each (R c) xs ys → Each (R d) zs ys
+each-moved {A} {B} {C} R c d xs zs ys e h k =
+    let P : C → Type 0 = λ x. Each (R x) xs ys in
+    let Q : List A → Type 0 = λ as. Each (R d) as ys in
+    subst Q h (subst P e k)
+
 pub each-weaken : {A B : Type 0} (R T : A → B → Type 0) (xs : List A) (ys : List B) → ((x : A) (y : B) → R x y → T x y) → Each R xs ys → Each T xs ys
 each-weaken R T [] [] f h = tt
 each-weaken R T [] (y ∷ ys) f h = h
@@ -67,6 +75,13 @@ each-all R P [] ys f h k d l = absurd (omega arith)
 each-all R P (x ∷ xs) [] f h k d l = absurd h
 each-all R P (x ∷ xs) (y ∷ ys) f h zero d l = f x y h.0
 each-all R P (x ∷ xs) (y ∷ ys) f h (suc k) d l = each-all R P xs ys f h.1 k d (omega arith)
+
+-- the items at one place
+pub each-at : {A B : Type 0} (R : A → B → Type 0) (xs : List A) (ys : List B) (i : ℕ) (x : A) (y : B) → i < length xs → Each R xs ys → R (get_or xs i x) (get_or ys i y)
+each-at R [] ys i x y l h = absurd (omega arith)
+each-at R (a ∷ xs) [] i x y l h = absurd h
+each-at R (a ∷ xs) (b ∷ ys) zero x y l h = h.0
+each-at R (a ∷ xs) (b ∷ ys) (suc i) x y l h = each-at R xs ys i x y (omega arith) h.1
 
 pub each-length : {A B : Type 0} (R : A → B → Type 0) (xs : List A) (ys : List B) → Each R xs ys → length xs ≡ length ys
 each-length R [] [] h = refl
@@ -119,3 +134,9 @@ module _ {A : Type 0} (passes : A → Type 0) (refuses : A → Refusal → Type 
 
 pub contains-at : {A : Type 0} (xs : List A) (i : ℕ) (x : A) → i < length xs → x ≡ get_or xs i x → Contains xs x
 contains-at xs i x l e = (i, l, sym e)
+
+-- an item that is refused, or where a number is wide, after items that pass
+pub or-wide-among : {A : Type 0} (passes : A → Type 0) (refuses : A → Refusal → Type 0) (wide : A → ℕ → Type 0) (xs : List A) (i : ℕ) (x : A) (r : Refusal)
+    → i < length xs → x ≡ get_or xs i x → All passes (take i xs) → OrWide refuses wide x r → OrWide (IsFirstRefused passes refuses) (IsWideAmong wide) xs r
+or-wide-among passes refuses wide xs i x r l e p (inl h) = inl (first-at passes refuses xs i x r l e p h)
+or-wide-among passes refuses wide xs i x r l e p (inr (k, w, h)) = inr (k, (x, contains-at xs i x l e, w), h)

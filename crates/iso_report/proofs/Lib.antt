@@ -5,10 +5,13 @@ pub mod EndingLemmas
 pub mod FactLemmas
 pub mod FractionLemmas
 pub mod GeneratorLemmas
+pub mod HeldLemmas
 pub mod InducedUniqueLemmas
 pub mod IrrepUniqueLemmas
 pub mod OutcomeLemmas
 pub mod ReadUniqueLemmas
+pub mod RepLemmas
+pub mod ReportLemmas
 pub mod SignFileLemmas
 pub mod SignGroupLemmas
 pub mod SignListingLemmas

@@ -12,9 +12,8 @@ use Rattle.kstar.specs.declared.wave_vector.KVector.{KVector}
 use Rattle.kstar.specs.Fraction.{part_of, IsTwelfths, IsWaveVector, twelfths_of, row_of, IsLowestRow}
 use Rattle.iso_text.specs.Fractions.{IsLowest}
 use Rattle.space_ops.specs.Group.{Parent}
-use Rattle.induce.specs.CellPhase.{HasDenominators, IsWholeOn}
-use Rattle.induce.specs.CellPhaseLaws.{multipliers-whole}
-use Rattle.super_group.specs.Multipliers.{AreMultipliers, denominator}
+use Rattle.induce.specs.CellPhase.{HasDenominators}
+use Rattle.super_group.specs.Multipliers.{AreDenominators, denominator}
 use Rattle.iso_report.specs.Irreps.{row_of_irrep}
 
 abbrev pub wave_of : IrrepText → KVector
@@ -62,3 +61,22 @@ has-denominators irreps n i l e b =
     let part : (j : ℕ) → j < 3 → denominator (dens_of irreps) n j ≡ (part_of (wave_of i) j).den =
     λ j m. ap (λ (ds : List ℕ). slice_index_or ds j 1) at ∙ three_dens i.k b.wave.count j m in
     record { listed = omega (arith, h, l); first = part 0 (omega arith); second = part 1 (omega arith); third = part 2 (omega arith) }
+
+den-at : (irreps : List IrrepText) (e : IrrepText) → All IsBlock irreps → (n j : ℕ) → n < length irreps → j < 3 → denominator (dens_of irreps) n j ≡ (part_of (wave_of (get_or irreps n e)) j).den
+den-at irreps e b n j l m =
+    ap (λ (ds : List ℕ). slice_index_or ds j 1) (get_or-map (λ (i : IrrepText). map (λ v. v.den) i.k) irreps n e [] l) ∙ three_dens (get_or irreps n e).k (b n e l).wave.count j m
+
+pub are-denominators : (irreps : List IrrepText) → All IsBlock irreps → AreDenominators (dens_of irreps)
+are-denominators [] b = record {
+  positive = λ n j l m. let none : n < 0 = l in absurd (omega (arith, none));
+  divide = λ n j l m. let none : n < 0 = l in absurd (omega (arith, none));
+}
+are-denominators (e ∷ rest) b =
+    let irreps : List IrrepText = e ∷ rest in
+    let size : length (dens_of irreps) ≡ length irreps = length-map irreps (λ (i : IrrepText). map (λ v. v.den) i.k) in
+    record {
+      positive = λ n j l m. let k : n < length irreps = omega (arith, size, l) in
+          subst (λ x. 0 < x) (sym (den-at irreps e b n j k m)) (fraction-at (get_or irreps n e) (b n e k) j m).positive;
+      divide = λ n j l m. let k : n < length irreps = omega (arith, size, l) in
+          subst (λ x. 12 % x ≡ 0) (sym (den-at irreps e b n j k m)) (fraction-at (get_or irreps n e) (b n e k) j m).divides;
+    }

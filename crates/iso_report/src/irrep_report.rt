@@ -6,7 +6,7 @@ ghost use Rattle.space_ops.specs.Matrix.{Vector};
 ghost use Rattle.space_ops.specs.OpText.{text_of};
 ghost use Rattle.kstar.specs.Fraction.{IsLowestRow};
 ghost use Rattle.kstar.specs.Star.{IsStarOf};
-ghost use Rattle.iso_report.specs.Fractions.{row_text};
+ghost use Rattle.iso_report.specs.Fractions.{frac_text, row_text};
 ghost use Rattle.iso_report.specs.Held.{facts_in, IsInducedHeld};
 ghost use Rattle.iso_report.specs.HeldFiles.{AreInducedHeld};
 ghost use Rattle.iso_report.specs.Irreps.{row_of_irrep};
@@ -15,22 +15,37 @@ ghost use Rattle.iso_report.specs.IrrepReport.{irrep_head, irrep_tail, arm_line,
 use crate::context::InducedFile;
 use crate::fraction::fraction_text;
 use induce::{Induced, Kind};
-use iso_text::{IrrepText, NoMemory, Text};
+use iso_text::{Frac, IrrepText, NoMemory, Text};
 use kstar::{KVector, Star};
 use space_ops::{Group, Op};
 use std::alloc::Global;
 use super_group::Quotient;
 
+// Three fractions, with a blank between each two.
+fn fractions_text(alloc: Global, x: Frac, y: Frac, z: Frac) -> Result<Text, NoMemory>
+    ensures { IfOk result (λ text. text ≡ frac_text x ++ codes " " ++ frac_text y ++ codes " " ++ frac_text z) }
+{
+    let mut text = fraction_text(alloc, x)?;
+    text.push(b" ")?;
+    text.push(fraction_text(alloc, y)?.as_slice())?;
+    text.push(b" ")?;
+    text.push(fraction_text(alloc, z)?.as_slice())?;
+    Ok(text)
+}
+
 // The three fractions of a wave vector in lowest terms.
 fn wave_text(alloc: Global, k: KVector) -> Result<Text, NoMemory>
     ensures { IfOk result (λ text. (row : Vector ℤ) → IsLowestRow row k → text ≡ row_text row) }
 {
-    let mut text = fraction_text(alloc, k.parts[0])?;
-    text.push(b" ")?;
-    text.push(fraction_text(alloc, k.parts[1])?.as_slice())?;
-    text.push(b" ")?;
-    text.push(fraction_text(alloc, k.parts[2])?.as_slice())?;
-    Ok(text)
+    fractions_text(alloc, k.parts[0], k.parts[1], k.parts[2])
+}
+
+// The three fractions of the wave vector of an irrep.
+fn irrep_wave(alloc: Global, irrep: &IrrepText) -> Result<Text, NoMemory>
+    requires { IsBlock irrep.now }
+    ensures { IfOk result (λ text. text ≡ row_text (row_of_irrep irrep.now)) }
+{
+    wave_text(alloc, KVector { parts: irrep.k })
 }
 
 // The word of a kind.
@@ -53,7 +68,7 @@ fn irrep_head(alloc: Global, irrep: &IrrepText) -> Result<Text, NoMemory>
     text.push(b"irrep ")?;
     text.push(irrep.name.as_slice())?;
     text.push(b" k ")?;
-    text.push(wave_text(alloc, KVector { parts: irrep.k })?.as_slice())?;
+    text.push(irrep_wave(alloc, irrep)?.as_slice())?;
     Ok(text)
 }
 
@@ -79,13 +94,13 @@ fn irrep_tail(alloc: Global, size: u8, induced: &Induced) -> Result<Text, NoMemo
     Ok(text)
 }
 
-// The line of an arm.
-fn arm_text(alloc: Global, arm: KVector, op: Op) -> Result<Text, NoMemory>
-    ensures { IfOk result (λ text. (row : Vector ℤ) → IsLowestRow row arm → text ≡ line (codes "arm " ++ row_text row ++ codes " by " ++ text_of op) []) }
+// The line of an arm, by the text of its wave vector.
+fn arm_text(alloc: Global, wave: &Text, op: Op) -> Result<Text, NoMemory>
+    ensures { IfOk result (λ text. text ≡ line (codes "arm " ++ wave.now ++ codes " by " ++ text_of op) []) }
 {
     let mut text = Text::new(alloc);
     text.push(b"arm ")?;
-    text.push(wave_text(alloc, arm)?.as_slice())?;
+    text.push(wave.as_slice())?;
     text.push(b" by ")?;
     text.push(op.print(alloc)?.as_slice())?;
     text.push(b"\n")?;
@@ -104,7 +119,8 @@ fn arm_line(
     requires place { i < length star.now.by }
     ensures { IfOk result (λ text. text ≡ arm_line group.now irrep.now (slice_index star.now.by i)) }
 {
-    arm_text(alloc, star.arm(i), group.op(star.by(i)))
+    let wave = wave_text(alloc, star.arm(i))?;
+    arm_text(alloc, &wave, group.op(star.by(i)))
 }
 
 // The lines of the arms of the star of an irrep's wave vector.

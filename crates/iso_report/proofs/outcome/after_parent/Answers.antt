@@ -6,12 +6,12 @@ use Rattle.iso_report.proofs.StepLemmas.{found-refused, found-next}
 use Rattle.iso_report.proofs.outcome.after_parent.Goals as goal
 
 pub after_phases-requires : goal.after_phases-requires
-after_phases-requires c = (rw c.in-Passed.is at c.in_ok-stars_of.ensures).1
+after_phases-requires c = (rw c.in-Passed.is at c.in_ok-starred.ensures).1
 
 pub returns-in-Passed : goal.returns-in-Passed
 returns-in-Passed c =
-    let passed = rw c.in-Passed.is at c.in_ok-stars_of.ensures in
+    let passed = rw c.in-Passed.is at c.in_ok-starred.ensures in
     found-next RefusesPhases never HavePhases (AfterPhases job.Check) c.args.parented c.in-Passed.starred.parented passed.0 c.after_phases.result c.after_phases.ensures
 
 pub returns-in-Refused : goal.returns-in-Refused
-returns-in-Refused c = found-refused RefusesPhases never HavePhases (AfterPhases job.Check) c.args.parented c.in-Refused.refusal (rw c.in-Refused.is at c.in_ok-stars_of.ensures)
+returns-in-Refused c = found-refused RefusesPhases never HavePhases (AfterPhases job.Check) c.args.parented c.in-Refused.refusal (rw c.in-Refused.is at c.in_ok-starred.ensures)

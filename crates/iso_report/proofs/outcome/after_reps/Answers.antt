@@ -10,7 +10,7 @@ use Rattle.iso_report.proofs.outcome.after_reps.Goals as goal
 
 pub returns-in-Passed : goal.returns-in-Passed
 returns-in-Passed c =
-    let passed = rw c.in-Passed.is at c.in_ok-induced_of.ensures in
+    let passed = rw c.in-Passed.is at c.in_ok-file.ensures in
     let file = c.in-Passed.file in
     let q = file.divided.quotient in
     let facts = each-map (IsInducedHeld q) (AreFactsOf q) facts_in file.divided.file.irreps file.irreps.items (λ i v h. h.facts) passed.1 in
@@ -18,4 +18,4 @@ returns-in-Passed c =
 
 pub returns-in-Refused : goal.returns-in-Refused
 returns-in-Refused c =
-    found-wide RefusesDimensions AreWideInduced HaveInduced (IsFound job.Check) c.args.represented.divided c.in-Refused.refusal (rw c.in-Refused.is at c.in_ok-induced_of.ensures)
+    found-wide RefusesDimensions AreWideInduced HaveInduced (IsFound job.Check) c.args.represented.divided c.in-Refused.refusal (rw c.in-Refused.is at c.in_ok-file.ensures)

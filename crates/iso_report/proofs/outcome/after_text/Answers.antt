@@ -9,13 +9,13 @@ use Rattle.iso_report.proofs.outcome.after_text.Goals as goal
 
 pub after_parent-requires : goal.after_parent-requires
 after_parent-requires c =
-    let passed = rw c.in-Passed.is at c.in_ok-parent_of.ensures in
+    let passed = rw c.in-Passed.is at c.in_ok-parented.ensures in
     subst IsInRange (sym passed.4) c.requires
 
 pub returns-in-Passed : goal.returns-in-Passed
 returns-in-Passed c =
-    let passed = rw c.in-Passed.is at c.in_ok-parent_of.ensures in
+    let passed = rw c.in-Passed.is at c.in_ok-parented.ensures in
     found-next RefusesParent never IsParented (AfterParent job.Check) c.args.document c.in-Passed.parented passed c.after_parent.result c.after_parent.ensures
 
 pub returns-in-Refused : goal.returns-in-Refused
-returns-in-Refused c = found-refused RefusesParent never IsParented (AfterParent job.Check) c.args.document c.in-Refused.refusal (rw c.in-Refused.is at c.in_ok-parent_of.ensures)
+returns-in-Refused c = found-refused RefusesParent never IsParented (AfterParent job.Check) c.args.document c.in-Refused.refusal (rw c.in-Refused.is at c.in_ok-parented.ensures)

@@ -6,12 +6,12 @@ use Rattle.iso_report.proofs.StepLemmas.{found-refused, found-next}
 use Rattle.iso_report.proofs.outcome.check.Goals as goal
 
 pub after_text-requires : goal.after_text-requires
-after_text-requires c = rw c.in-Passed.is at c.in_ok-read_file.ensures.ranges
+after_text-requires c = rw c.in-Passed.is at c.in_ok-document.ensures.ranges
 
 pub returns-in-Passed : goal.returns-in-Passed
 returns-in-Passed c =
-    let passed = rw c.in-Passed.is at c.in_ok-read_file.ensures.answer in
+    let passed = rw c.in-Passed.is at c.in_ok-document.ensures.answer in
     found-next RefusesText never IsRead (AfterText job.Check) c.args.bytes.now c.in-Passed.document passed c.after_text.result c.after_text.ensures
 
 pub returns-in-Refused : goal.returns-in-Refused
-returns-in-Refused c = found-refused RefusesText never IsRead (AfterText job.Check) c.args.bytes.now c.in-Refused.refusal (rw c.in-Refused.is at c.in_ok-read_file.ensures.answer)
+returns-in-Refused c = found-refused RefusesText never IsRead (AfterText job.Check) c.args.bytes.now c.in-Refused.refusal (rw c.in-Refused.is at c.in_ok-document.ensures.answer)
