@@ -1,16 +1,13 @@
 -- Matrices of a little group have one answer of the check.
-use Rattle.std.proofs.Common.{◌≡◌, ℤ, sym, ap, ◌∙◌, subst, ℕ, zero, suc, ◌<◌, ◌≤◌, ◌*◌, ◌/◌, ◌%◌, List, length, get_or, slice_index, slice_index_or, Some, None, arith}
+use Rattle.std.proofs.Common.{◌≡◌, ℤ, sym, ap, ◌∙◌, subst, ℕ, zero, suc, ◌<◌, ◌*◌, ◌/◌, ◌%◌, List, length, slice_index, slice_index_or, Some, arith}
 use Rattle.std.specs.Prelude.{Contains}
 use Rattle.std.proofs.lemmas.List.{get_or_default}
 use Rattle.std.proofs.lemmas.Nat.{div_below, mod_below}
 use Rattle.algebra.specs.Subgroup.{IsSubgroup}
 use Rattle.cyclo24.specs.declared.k24.K24.{K24}
-use Rattle.cyclo24.specs.ExactZ24.{ExactZ24, z24_laws, power, real_part}
-use Rattle.cyclo24.specs.ExactK24.{Exact24}
+use Rattle.cyclo24.specs.ExactZ24.{z24_laws, power, real_part}
 use Rattle.cyclo24.specs.K24Order.{same24}
-use Rattle.cyclo24.specs.Sums.{total}
 use Rattle.cyclo24.specs.TotalLaws.{total-same}
-use Rattle.lin_alg.specs.Matrices.{trace}
 use Rattle.space_ops.specs.declared.op.Op.{Op}
 use Rattle.space_ops.specs.Op.{identity_op}
 use Rattle.space_ops.specs.Group.{Parent}

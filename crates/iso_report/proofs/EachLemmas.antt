@@ -1,5 +1,5 @@
 -- Steps over the items of a list, and lists whose items at one place are related.
-use Rattle.std.proofs.Common.{◌≡◌, inl, inr, refl, sym, ap, ◌∙◌, subst, ℕ, zero, suc, ◌+◌, ◌<◌, ◌≤◌, List, [], ◌∷◌, ◌++◌, length, take, drop, get_or, map, arith, add-one}
+use Rattle.std.proofs.Common.{◌≡◌, inl, inr, refl, sym, ap, ◌∙◌, subst, ℕ, zero, suc, ◌+◌, ◌<◌, ◌≤◌, List, [], ◌∷◌, ◌++◌, length, take, drop, get_or, map, arith}
 use Rattle.std.proofs.Math.Seq.{take-suc, drop-cons}
 use Rattle.std.proofs.lemmas.List.{take-append-drop, take_all}
 use Rattle.std.specs.Prelude.{All, Contains}
@@ -47,7 +47,7 @@ each-none {A} R xs i x l h = let P : List A → Type 0 = λ zs. Each R zs [] in 
 pub each-moved : {A B C : Type 0} (R : C → A → B → Type 0) (c d : C) (xs zs : List A) (ys : List B) → c ≡ d → xs ≡ zs → Each (R c) xs ys → Each (R d) zs ys
 each-moved {A} {B} {C} R c d xs zs ys e h k =
     let P : C → Type 0 = λ x. Each (R x) xs ys in
-    let Q : List A → Type 0 = λ as. Each (R d) as ys in
+    let Q : List A → Type 0 = λ es. Each (R d) es ys in
     subst Q h (subst P e k)
 
 pub each-weaken : {A B : Type 0} (R T : A → B → Type 0) (xs : List A) (ys : List B) → ((x : A) (y : B) → R x y → T x y) → Each R xs ys → Each T xs ys

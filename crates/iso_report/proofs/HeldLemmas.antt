@@ -1,5 +1,5 @@
 -- What the program holds of the irreps of a file behind each step.
-use Rattle.std.proofs.Common.{◌≡◌, refl, sym, ap, ◌∙◌, subst, ℕ, ◌<◌, ◌≤◌, List, length, get_or, arith}
+use Rattle.std.proofs.Common.{◌≡◌, refl, sym, ap, subst, ℕ, ◌<◌, ◌≤◌, List, get_or}
 use Rattle.std.proofs.lemmas.List.{get_or_default}
 use Rattle.std.specs.Prelude.{All}
 use Rattle.iso_text.specs.FileValue.{File}
@@ -10,12 +10,18 @@ use Rattle.kstar.specs.Star.{WaveStar}
 use Rattle.super_group.specs.Multipliers.{AreMultipliers}
 use Rattle.super_group.specs.Quotient.{SupercellGroup, IsQuotient, order_in}
 use Rattle.induce.specs.CellPhase.{IsWholeOn}
+use Rattle.small_rep.specs.Rep.{matrices_of}
+use Rattle.induce.specs.InducedView.{InducedView}
 use Rattle.induce.specs.CellPhaseLaws.{multipliers-whole, arms-whole}
 use Rattle.iso_report.specs.declared.refusal.Refusal.TheVariants as refusal
-use Rattle.iso_report.specs.Held.{IsStarHeld, IsCellHeld}
-use Rattle.iso_report.specs.Irreps.{row_of_irrep, HasPhase}
-use Rattle.iso_report.specs.IrrepSteps.{Each}
-use Rattle.iso_report.specs.Stages.{RefusesOrder, IsDivided}
+use Rattle.iso_report.specs.declared.context.AcceptedRep.{AcceptedRep}
+use Rattle.iso_report.specs.declared.refusal.Refusal.{Refusal}
+use Rattle.iso_report.specs.Contexts.{Divided}
+use Rattle.iso_report.specs.Held.{IsStarHeld, IsCellHeld, IsRepHeld, IsInducedHeld}
+use Rattle.iso_report.specs.Irreps.{row_of_irrep, HasPhase, HasRep, RefusesRep, IsWideRep, HasInduced, RefusesInduced, IsWideInducedRep}
+use Rattle.iso_report.specs.IrrepSteps.{IsFirstRefused, IsWideAmong, Each}
+use Rattle.iso_report.specs.Stages.{RefusesOrder, IsDivided, RefusesReps, AreWideReps, RefusesDimensions, AreWideInduced}
+use Rattle.iso_report.specs.Steps.{OrWide}
 use Rattle.iso_report.proofs.EachLemmas.{each-all, each-with}
 use Rattle.iso_report.proofs.WaveLemmas.{dens_of, wave_of, wave-vector, has-denominators}
 
@@ -65,3 +71,25 @@ module _ (file : File) (group : Parent) (dens : List (List ℕ)) (d : List ℕ) 
   are-celled stars held =
       cells-held q quotient file.irreps stars (subst (λ (g : Parent). AreMultipliers g.ops (dens_of file.irreps) q.d) (sym parent) same-multipliers)
       (subst (λ (g : Parent). Each (IsStarHeld g) file.irreps stars) (sym parent) held)
+
+-- ---- the small representations, and what they induce
+
+pub reps-given : (q : SupercellGroup) (irreps : List IrrepText) (reps : List AcceptedRep) → Each (IsRepHeld q) irreps reps → All (HasRep q.parent) irreps
+reps-given q irreps reps h = each-all (IsRepHeld q) (HasRep q.parent) irreps reps (λ i a k. (a.star, matrices_of a.rep.rep, k.rep.rep)) h
+
+pub induced-given : (q : SupercellGroup) (irreps : List IrrepText) (all : List InducedView) → Each (IsInducedHeld q) irreps all → All (HasInduced q) irreps
+induced-given q irreps all h = each-all (IsInducedHeld q) (HasInduced q) irreps all (λ i v k. k.induced) h
+
+-- the answers for the quotient and the irreps of a file are those for the file
+module _ (d : Divided) (q : SupercellGroup) (irreps : List IrrepText) (e : q ≡ d.quotient) (h : irreps ≡ d.file.irreps) (r : Refusal) where
+  pub reps-refused : OrWide (IsFirstRefused (HasRep q.parent) (RefusesRep q.parent)) (IsWideAmong (IsWideRep q.parent)) irreps r → OrWide RefusesReps AreWideReps d r
+  reps-refused w =
+      let P : SupercellGroup → Type 0 = λ x. OrWide (IsFirstRefused (HasRep x.parent) (RefusesRep x.parent)) (IsWideAmong (IsWideRep x.parent)) irreps r in
+      let Q : List IrrepText → Type 0 = λ xs. OrWide (IsFirstRefused (HasRep d.quotient.parent) (RefusesRep d.quotient.parent)) (IsWideAmong (IsWideRep d.quotient.parent)) xs r in
+      subst Q h (subst P e w)
+
+  pub induced-refused : OrWide (IsFirstRefused (HasInduced q) (RefusesInduced q)) (IsWideAmong (IsWideInducedRep q)) irreps r → OrWide RefusesDimensions AreWideInduced d r
+  induced-refused w =
+      let P : SupercellGroup → Type 0 = λ x. OrWide (IsFirstRefused (HasInduced x) (RefusesInduced x)) (IsWideAmong (IsWideInducedRep x)) irreps r in
+      let Q : List IrrepText → Type 0 = λ xs. OrWide (IsFirstRefused (HasInduced d.quotient) (RefusesInduced d.quotient)) (IsWideAmong (IsWideInducedRep d.quotient)) xs r in
+      subst Q h (subst P e w)

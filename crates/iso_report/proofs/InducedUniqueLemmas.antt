@@ -1,15 +1,12 @@
 -- Matrices that agree on the little group induce the same: one kind, and one real dimension.
-use Rattle.std.proofs.Common.{◌≡◌, refl, sym, ap, ◌∙◌, subst, ℕ, zero, suc, ◌<◌, ◌*◌, ◌/◌, ◌%◌, Bool, true, false, if◌then◌else◌, ℤ, pos, List, length, slice_index, arith}
+use Rattle.std.proofs.Common.{◌≡◌, refl, sym, ap, ◌∙◌, subst, ℕ, zero, suc, ◌<◌, ◌*◌, ◌/◌, ◌%◌, Bool, true, false, if◌then◌else◌, ℤ, List, length, slice_index, arith}
 use Rattle.std.proofs.lemmas.Bool.{true≢false}
-use Rattle.std.proofs.lemmas.Nat.{div_below, mod_below}
+use Rattle.std.proofs.lemmas.Nat.{mod_below}
 use Rattle.cyclo24.specs.ExactField.{ExactField, Value}
-use Rattle.cyclo24.specs.ExactZ24.{ExactZ24, z24, z24_laws, power}
+use Rattle.cyclo24.specs.ExactZ24.{ExactZ24, z24, z24_laws}
 use Rattle.cyclo24.specs.FieldOn.{ones}
 use Rattle.cyclo24.specs.Sums.{total}
 use Rattle.cyclo24.specs.TotalLaws.{total-same}
-use Rattle.lin_alg.specs.Matrices.{trace}
-use Rattle.space_ops.specs.Group.{Parent}
-use Rattle.space_ops.specs.Matrix.{Vector}
 use Rattle.space_ops.specs.Member.{rotation_of, rest_of}
 use Rattle.algebra.specs.Whole.{whole}
 use Rattle.space_ops.specs.Seitz.{Seitz, seitz_product, seitz_inverse}

@@ -1,5 +1,5 @@
 -- Each step over the irreps of a file has one answer.
-use Rattle.std.proofs.Common.{◌≡◌, refl, sym, ap, ◌∙◌, subst, ℕ, ◌<◌, ◌≤◌, ◌*◌, ◌⊎◌, inl, inr, ℤ, List, length, slice_index, Option, Some, None, arith}
+use Rattle.std.proofs.Common.{◌≡◌, sym, ap, ◌∙◌, subst, ℕ, ◌<◌, ◌*◌, inl, inr, ℤ, List, length, Option, Some, None, arith}
 use Rattle.algebra.specs.Subgroup.{IsSubgroup}
 use Rattle.iso_text.specs.Fractions.{IsLowest}
 use Rattle.iso_text.specs.LowestLaws.{lowest-unique}
@@ -16,17 +16,17 @@ use Rattle.kstar.specs.Star.{WaveStar, IsStarOf, IsFirstBadPhase, row_in}
 use Rattle.kstar.specs.StarLaws.{star-subgroup}
 use Rattle.super_group.specs.Quotient.{SupercellGroup, IsQuotient, order_of}
 use Rattle.super_group.specs.PlaceLaws.{zero-first}
-use Rattle.small_rep.specs.SmallRep.{Matrices, IsSmallRep, character_sum}
+use Rattle.small_rep.specs.SmallRep.{Matrices}
 use Rattle.small_rep.specs.Reading.{AreReadFrom}
 use Rattle.cyclo24.specs.ExactK24.{Exact24}
 use Rattle.induce.specs.declared.kinds.Kind.{Kind}
-use Rattle.induce.specs.Induced.{dimension_of, indicator_sum}
-use Rattle.induce.specs.Kinds.{real_dimension, HasTooMany}
+use Rattle.induce.specs.Induced.{dimension_of}
+use Rattle.induce.specs.Kinds.{HasTooMany}
 use Rattle.iso_report.specs.declared.refusal.Refusal.{Refusal}
 use Rattle.iso_report.specs.declared.refusal.Refusal.TheVariants as refusal
 use Rattle.iso_report.specs.IrrepReport.{Facts, AreFactsBy, AreFactsOf}
-use Rattle.iso_report.specs.Irreps.{row_of_irrep, HasPhase, RefusesPhase, IsRepresented, HasRep, RefusesRep, IsVectorOf, IsVectorCause, IsInducible, HasInduced, RefusesInduced}
-use Rattle.iso_report.proofs.StarPairLemmas.{IsTwin, twins, twin-sym}
+use Rattle.iso_report.specs.Irreps.{row_of_irrep, HasPhase, RefusesPhase, IsRepresented, HasRep, RefusesRep, IsVectorOf, IsVectorCause, HasInduced, RefusesInduced}
+use Rattle.iso_report.proofs.StarPairLemmas.{IsTwin, twins}
 use Rattle.iso_report.proofs.ReadUniqueLemmas.{one-place, Agree, read-refusal, read-one, read-none, readings-agree}
 use Rattle.iso_report.proofs.CheckUniqueLemmas.{check-refusal, check-one, check-none, sum-too}
 use Rattle.iso_report.proofs.InducedUniqueLemmas.{kind-same, dimension-same, real-same, many-same, many-too}

@@ -1,5 +1,5 @@
 -- A file's bytes have one outcome.
-use Rattle.std.proofs.Common.{◌≡◌, ap, ◌∙◌, sym, subst, List}
+use Rattle.std.proofs.Common.{ap, ◌∙◌, sym, subst, List}
 use Rattle.iso_text.specs.FileLaws.{FilesAreUnique, CausesAreUnique, FilesHaveNoCause}
 use Rattle.iso_report.specs.declared.job.Job.{Job}
 use Rattle.iso_text.specs.FileValue.{File}

@@ -1,15 +1,14 @@
 -- The `mat` lines of a block have one reading, or one cause.
-use Rattle.std.proofs.Common.{◌≡◌, ℤ, sym, ap, ◌∙◌, subst, ℕ, ◌<◌, ◌≤◌, ◌+◌, ◌*◌, List, [], length, get_or, slice_index, slice_index_or, Some, None, arith}
+use Rattle.std.proofs.Common.{◌≡◌, sym, ap, ◌∙◌, subst, ℕ, ◌<◌, ◌≤◌, ◌+◌, ◌*◌, List, [], length, slice_index, slice_index_or, Some, None, arith}
 use Rattle.std.specs.Prelude.{Contains}
 use Rattle.std.proofs.lemmas.List.{get_or_default}
 use Rattle.algebra.specs.Whole.{whole}
-use Rattle.cyclo24.specs.ExactZ24.{ExactZ24}
 use Rattle.cyclo24.specs.Terms.{terms_value}
 use Rattle.iso_text.specs.declared.sections.MatText.{MatText}
 use Rattle.space_ops.specs.declared.op.Op.{Op}
 use Rattle.space_ops.specs.Op.{identity_op}
 use Rattle.space_ops.specs.Group.{Parent}
-use Rattle.space_ops.specs.Matrix.{Vector, minus_vector}
+use Rattle.space_ops.specs.Matrix.{minus_vector}
 use Rattle.space_ops.specs.Member.{rest_of}
 use Rattle.kstar.specs.WaveVector.{phase_of}
 use Rattle.kstar.specs.Star.{WaveStar}

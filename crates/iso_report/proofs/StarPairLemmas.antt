@@ -1,7 +1,6 @@
 -- Two stars of one wave vector: they have one row, one little group and the same representatives.
-use Rattle.std.proofs.Common.{◌≡◌, sym, ◌∙◌, subst, ℕ, ◌<◌, ℤ, List, length, arith}
+use Rattle.std.proofs.Common.{◌≡◌, sym, ◌∙◌, subst, ℕ, ℤ, List, length}
 use Rattle.algebra.specs.RisingListLaws.{list-unique}
-use Rattle.algebra.specs.Subgroup.{IsSubgroup}
 use Rattle.iso_text.specs.declared.sections.MatText.{MatText}
 use Rattle.space_ops.specs.Matrix.{Vector}
 use Rattle.space_ops.specs.Seitz.{Seitz}

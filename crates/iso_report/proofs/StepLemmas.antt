@@ -1,5 +1,5 @@
 -- What is found behind a step, by its answer.
-use Rattle.std.proofs.Common.{◌≡◌, refl, ap, ℕ, inl, inr, Result, Ok, Err, IfOk}
+use Rattle.std.proofs.Common.{refl, ap, ℕ, inl, inr, Result, Ok, Err, IfOk}
 use Rattle.iso_report.specs.declared.found.Found.{Found}
 use Rattle.iso_report.specs.declared.refusal.Refusal.{Refusal}
 use Rattle.iso_report.specs.declared.step.Step.{Step}

@@ -1,17 +1,16 @@
 -- The wave vectors of a file.
-use Rattle.std.proofs.Common.{◌≡◌, refl, sym, ap, ◌∙◌, subst, ℕ, zero, suc, ◌+◌, ◌*◌, ◌/◌, ◌%◌, ◌<◌, ℤ, pos, ◌*ℤ◌, List, [], ◌∷◌, length, map, get_or, arith, slice_index_or}
+use Rattle.std.proofs.Common.{◌≡◌, sym, ap, ◌∙◌, subst, ℕ, ◌*◌, ◌/◌, ◌%◌, ◌<◌, ℤ, pos, ◌*ℤ◌, List, [], ◌∷◌, length, map, get_or, arith, slice_index_or}
 use Rattle.std.proofs.lemmas.List.{get_or-map, length-map}
 use Rattle.std.proofs.Math.IntN.{pos-*ℤ-pos}
 use Rattle.algebra.specs.WholeLaws.{whole_ring}
 use Rattle.std.specs.Prelude.{All}
-use Rattle.iso_text.specs.Ranges.{IsBlock, IsInRange}
+use Rattle.iso_text.specs.Ranges.{IsBlock}
 use Rattle.iso_text.specs.WordRanges.{IsFraction}
 use Rattle.iso_text.specs.declared.numbers.Frac.{Frac}
 use Rattle.iso_text.specs.declared.sections.IrrepText.{IrrepText}
 use Rattle.kstar.specs.declared.wave_vector.KVector.{KVector}
-use Rattle.kstar.specs.Fraction.{part_of, IsTwelfths, IsWaveVector, twelfths_of, row_of, IsLowestRow}
+use Rattle.kstar.specs.Fraction.{part_of, IsTwelfths, IsWaveVector, twelfths_of, IsLowestRow}
 use Rattle.iso_text.specs.Fractions.{IsLowest}
-use Rattle.space_ops.specs.Group.{Parent}
 use Rattle.induce.specs.CellPhase.{HasDenominators}
 use Rattle.super_group.specs.Multipliers.{AreDenominators, denominator}
 use Rattle.iso_report.specs.Irreps.{row_of_irrep}

@@ -4,7 +4,6 @@
 -- IsCelled p c: divided, with stars that are whole on the supercell
 -- IsRepresentedFile d r: with the small representations
 -- IsInducedFile d f: with the matrices that they induce
-use Rattle.std.specs.Prelude.{◌≡◌}
 use Rattle.iso_report.specs.declared.context.Starred.{Starred}
 use Rattle.iso_report.specs.declared.context.Celled.{Celled}
 use Rattle.iso_report.specs.declared.context.Represented.{Represented}

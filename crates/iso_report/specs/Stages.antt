@@ -6,7 +6,7 @@
 -- RefusesOrder, IsDivided: the parent group modulo the supercell of the wave vectors
 -- RefusesReps, AreWideReps, HaveReps: the small representations
 -- RefusesDimensions, AreWideInduced, HaveInduced: the representations that they induce
-use Rattle.std.specs.Prelude.{◌≡◌, ◌⊎◌, ℕ, ◌<◌, ◌≤◌, List, All, length, map}
+use Rattle.std.specs.Prelude.{◌≡◌, ◌⊎◌, ℕ, ◌<◌, ◌≤◌, List, All, map}
 use Rattle.iso_text.specs.File.{IsFile, HasCause}
 use Rattle.iso_text.specs.FileValue.{File}
 use Rattle.iso_text.specs.Lines.{lines_of}

@@ -1,5 +1,5 @@
 // What `check` tells of the irreps.
-ghost use Rattle.std.specs.Prelude.{◌≡◌, ◌<◌, ◌++◌, IfOk, OnOk, ℤ, codes, flat_map, length, map, slice_index, []};
+ghost use Rattle.std.specs.Prelude.{◌≡◌, ◌<◌, ◌++◌, IfOk, ℤ, codes, flat_map, length, map, slice_index, []};
 ghost use Rattle.iso_text.specs.Lines.{line};
 ghost use Rattle.iso_text.specs.Ranges.{IsBlock};
 ghost use Rattle.space_ops.specs.Matrix.{Vector};

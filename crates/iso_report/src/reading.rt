@@ -1,5 +1,5 @@
 // The first step of the work: the text.
-ghost use Rattle.std.specs.Prelude.{◌≡◌, ◌≤◌, length, IfOk};
+ghost use Rattle.std.specs.Prelude.{◌≤◌, length, IfOk};
 ghost use Rattle.iso_text.specs.Ranges.{IsInRange};
 ghost use Rattle.iso_report.specs.Stages.{RefusesText, IsRead};
 ghost use Rattle.iso_report.specs.Steps.{Answers, IfPassed};

@@ -1,7 +1,6 @@
 // The stars of the wave vectors of a file.
 ghost use Rattle.std.specs.Prelude.{All, IfOk};
 ghost use Rattle.iso_text.specs.Ranges.{IsBlock, IsInRange};
-ghost use Rattle.kstar.specs.Star.{WaveStar};
 ghost use Rattle.iso_report.specs.Held.{IsStarHeld};
 ghost use Rattle.iso_report.specs.HeldFiles.{IsStarred};
 ghost use Rattle.iso_report.specs.IrrepSteps.{IsFirstRefused, Each};

@@ -1,4 +1,4 @@
-use Rattle.std.proofs.Common.{inl, inr, refl, map}
+use Rattle.std.proofs.Common.{inr, refl, map}
 use Rattle.iso_report.specs.declared.job.Job.TheVariants as job
 use Rattle.iso_report.specs.Held.{IsInducedHeld, facts_in}
 use Rattle.iso_report.specs.IrrepReport.{AreFactsOf}

@@ -4,8 +4,8 @@ use Rattle.kstar.specs.Star.{IsStarOf}
 use Rattle.iso_report.proofs.RepLemmas.{rep-accepted, rep-unaccepted}
 use Rattle.iso_report.proofs.rep.accepted.Goals as goal
 
-pub read-requires-star : goal.read-requires-star
-read-requires-star c = let P : Vector ℤ → Type 0 = λ k. IsStarOf c.args.group.now k c.args.star.now in subst P (sym c.requires.star.row) c.requires.star
+pub read-requires-clause-star : goal.read-requires-clause-star
+read-requires-clause-star c = let P : Vector ℤ → Type 0 = λ k. IsStarOf c.args.group.now k c.args.star.now in subst P (sym c.requires.star.row) c.requires.star
 
 pub returns-in-Ok-clause-rep : goal.returns-in-Ok-clause-rep
 returns-in-Ok-clause-rep c =

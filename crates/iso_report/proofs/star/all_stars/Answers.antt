@@ -1,4 +1,4 @@
-use Rattle.std.proofs.Common.{List, ◌∷◌, ◌++◌, [], sym, subst, take, ◌+◌, arith}
+use Rattle.std.proofs.Common.{List, sym, subst, take, ◌+◌, arith}
 use Rattle.kstar.specs.Star.{WaveStar}
 use Rattle.iso_report.specs.Held.{IsStarHeld}
 use Rattle.iso_report.specs.Irreps.{HasPhase, RefusesPhase}
