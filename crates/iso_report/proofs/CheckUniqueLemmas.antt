@@ -6,7 +6,7 @@ use Rattle.std.proofs.lemmas.Nat.{div_below, mod_below}
 use Rattle.algebra.specs.Subgroup.{IsSubgroup}
 use Rattle.cyclo24.specs.declared.k24.K24.{K24}
 use Rattle.cyclo24.specs.ExactZ24.{z24_laws, power, real_part}
-use Rattle.cyclo24.specs.K24Order.{same24}
+use Rattle.cyclo24.specs.K24OrderLaws.{same24}
 use Rattle.cyclo24.specs.TotalLaws.{total-same}
 use Rattle.space_ops.specs.declared.op.Op.{Op}
 use Rattle.space_ops.specs.Op.{identity_op}

@@ -4,7 +4,7 @@ ghost use Rattle.iso_text.specs.Lines.{line};
 ghost use Rattle.iso_text.specs.Ranges.{IsBlock};
 ghost use Rattle.space_ops.specs.Matrix.{Vector};
 ghost use Rattle.space_ops.specs.OpText.{text_of};
-ghost use Rattle.kstar.specs.Fraction.{IsLowestRow};
+ghost use Rattle.kstar.specs.Fraction.{part_of, IsLowestRow};
 ghost use Rattle.kstar.specs.Star.{IsStarOf};
 ghost use Rattle.iso_report.specs.Fractions.{frac_text, row_text};
 ghost use Rattle.iso_report.specs.Held.{facts_in, IsInducedHeld};
@@ -33,11 +33,22 @@ fn fractions_text(alloc: Global, x: Frac, y: Frac, z: Frac) -> Result<Text, NoMe
     Ok(text)
 }
 
+// Part i of a wave vector.
+fn part(k: KVector, i: usize) -> Frac
+    requires { i < 3 }
+    ensures { result ≡ part_of k i }
+{
+    k.parts[i]
+}
+
 // The three fractions of a wave vector in lowest terms.
 fn wave_text(alloc: Global, k: KVector) -> Result<Text, NoMemory>
     ensures { IfOk result (λ text. (row : Vector ℤ) → IsLowestRow row k → text ≡ row_text row) }
 {
-    fractions_text(alloc, k.parts[0], k.parts[1], k.parts[2])
+    let x = part(k, 0);
+    let y = part(k, 1);
+    let z = part(k, 2);
+    fractions_text(alloc, x, y, z)
 }
 
 // The three fractions of the wave vector of an irrep.
