@@ -72,6 +72,6 @@ parent-found symbols lists file =
     After-single-at RefusesParent never IsParented (AfterParent job.Check) file (single-at RefusesParent IsParented (parent-single symbols lists) file) (λ p w. phases-found p)
 
 pub outcome-one : FilesAreUnique → CausesAreUnique → FilesHaveNoCause → SymbolsAreUnique → ListsAreUnique → (j : Job) → HasOneOutcome j
-outcome-one files causes apart symbols lists job.List = first-listing-one
+outcome-one files causes apart symbols lists job.List = λ bytes f g x y u v. first-listing-one bytes f g x y
 outcome-one files causes apart symbols lists job.Check =
     λ bytes. After-single-at RefusesText never IsRead (AfterText job.Check) bytes (single-at RefusesText IsRead (text-single files causes apart) bytes) (λ file w. parent-found symbols lists file)

@@ -44,6 +44,24 @@ impl Model for Divided {
     ghost view = { λ d. record { file = d.document; quotient = d.quotient } };
 }
 
+impl Divided {
+    ghost use Rattle.std.specs.Prelude.{◌≡◌};
+
+    /// What was read.
+    pub fn document(&self) -> &Document
+        ensures { result.now ≡ self.now.file }
+    {
+        &self.document
+    }
+
+    /// The parent group modulo the supercell.
+    pub fn quotient(&self) -> &Quotient
+        ensures { result.now ≡ self.now.quotient }
+    {
+        &self.quotient
+    }
+}
+
 /// With the stars, whose wave vectors are whole on the supercell.
 #[derive(Drop)]
 pub struct Celled {

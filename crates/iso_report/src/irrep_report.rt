@@ -9,6 +9,7 @@ ghost use Rattle.kstar.specs.Star.{IsStarOf};
 ghost use Rattle.iso_report.specs.Fractions.{frac_text, row_text};
 ghost use Rattle.iso_report.specs.Held.{facts_in, IsInducedHeld};
 ghost use Rattle.iso_report.specs.HeldFiles.{AreInducedHeld};
+ghost use Rattle.iso_report.specs.IrrepSteps.{Each};
 ghost use Rattle.iso_report.specs.Irreps.{row_of_irrep};
 ghost use Rattle.iso_report.specs.IrrepReport.{irrep_head, irrep_tail, arm_line, irrep_text, irreps_text, kind_text};
 
@@ -162,16 +163,30 @@ fn irrep_text(
     Ok(text)
 }
 
+// The lines of irreps, one after the other.
+fn each_text(
+    alloc: Global,
+    quotient: &Quotient,
+    irreps: &[IrrepText],
+    all: &[Induced],
+) -> Result<Text, NoMemory>
+    requires { Each (IsInducedHeld quotient.now) irreps.now all.now }
+    ensures { IfOk result (λ text. text ≡ irreps_text quotient.now.parent irreps.now (map facts_in all.now)) }
+{
+    let mut text = Text::new(alloc);
+    for (i, induced) in all.iter().enumerate() {
+        let added = irrep_text(alloc, quotient, &irreps[i], induced)?;
+        text.push(added.as_slice())?;
+    }
+    Ok(text)
+}
+
 /// The lines of the irreps of a file.
 pub fn irreps_text(alloc: Global, file: &InducedFile) -> Result<Text, NoMemory>
     requires { AreInducedHeld file.now }
     ensures { IfOk result (λ text. text ≡ irreps_text file.now.divided.quotient.parent file.now.divided.file.irreps (map facts_in file.now.irreps.items)) }
 {
-    let irreps = file.divided.document.irreps();
-    let mut text = Text::new(alloc);
-    for (i, induced) in file.irreps.iter().enumerate() {
-        let added = irrep_text(alloc, &file.divided.quotient, &irreps[i], induced)?;
-        text.push(added.as_slice())?;
-    }
-    Ok(text)
+    let quotient = file.divided.quotient();
+    let irreps = file.divided.document().irreps();
+    each_text(alloc, quotient, irreps, &file.irreps)
 }
