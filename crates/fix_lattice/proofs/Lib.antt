@@ -1,5 +1,5 @@
 mod ListLemmas
-mod PairLemmas
+mod CutRowLemmas
 mod FormLemmas
 mod InsertLemmas
 mod MoverLemmas

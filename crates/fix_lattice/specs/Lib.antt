@@ -4,4 +4,5 @@ pub mod Wide
 pub mod LatticeLaws
 pub mod FormLaws
 pub mod Held
+pub mod Cuts
 pub mod Classes
