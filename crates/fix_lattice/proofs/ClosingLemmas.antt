@@ -5,8 +5,7 @@
 -- reached-own, reached-image, reached-grown: forms that are images of forms that are cut with each Fix(q)
 -- closing-classes: the tables at the end
 -- cuts-bound: how many cuts there are
-use Rattle.std.proofs.Common.{◌≡◌, ℕ, suc, ◌<◌, ◌≤◌, ◌+◌, ◌*◌, ◌⊎◌, inl, inr, Bool, true, false, refl, sym, ◌∙◌, ap, subst, List, [], ◌∷◌, ◌++◌, ◌↔◌, arith, length, get_or, set}
-use Rattle.std.proofs.lemmas.List.{get_or-set_other}
+use Rattle.std.proofs.Common.{◌≡◌, ℕ, suc, ◌<◌, ◌≤◌, ◌+◌, ◌*◌, ◌⊎◌, inl, inr, Bool, sym, ◌∙◌, ap, subst, List, [], ◌∷◌, ◌↔◌, arith, length, get_or}
 use Rattle.std.proofs.Math.Nat.{mul-le-mul_right}
 use Rattle.cyclo24.specs.ExactField.{ExactField, Value}
 use Rattle.lin_alg.specs.Action.{Action, IsAction, IsFixed}
@@ -16,16 +15,16 @@ use Rattle.lin_alg.specs.Images.{moves_of}
 use Rattle.lin_alg.specs.ImageLaws.{are-moves}
 use Rattle.lin_alg.specs.Moves.{conjugate}
 use Rattle.lin_alg.specs.MoveLaws.{conjugate-below}
-use Rattle.lin_alg.specs.UnionLaws.{lower}
 use Rattle.fix_lattice.specs.Lattice.{IsInSpace, form_at}
 use Rattle.fix_lattice.specs.LatticeLaws.{fix-vanishes, fix-form-same}
 use Rattle.fix_lattice.specs.Held.{IsFixSpace, IsSingleSpace, IsMeet, HasMeet, IsGrown, IsCutAt, IsNoted, HoldsSingles}
 use Rattle.fix_lattice.proofs.HeldLemmas.{put-all, grown-at, grown-meet, cut-fixed, single-fix, singles-only}
 use Rattle.fix_lattice.specs.Cuts.{cut_entry, cut_count, AreShort, IsCutNoted}
 use Rattle.fix_lattice.proofs.CutRowLemmas.{cuts-few, entry-inside}
-use Rattle.fix_lattice.specs.Classes.{IsImageForm, IsCutWithEach, IsReached, IsClassClosed, IsClosing, IsImageRow, AreImages, AreCovered, AreReached}
+use Rattle.fix_lattice.specs.Classes.{IsImageForm, IsCutWithEach, IsReached, IsClassClosed, IsClosing, AreImages, AreCovered}
 use Rattle.fix_lattice.proofs.ClassLemmas.{image-single, image-meet, image-own, image-after}
-use Rattle.fix_lattice.proofs.ListLemmas.{get_or-last, get_or-front, length-last, each-last}
+use Rattle.fix_lattice.proofs.ImageRowLemmas.{grown-image}
+use Rattle.fix_lattice.proofs.ListLemmas.{length-last, each-last}
 
 -- no row more than forms, each at most as long as there are Fix(q)
 pub cuts-bound : (cuts : List (List ℕ)) (m n fixes : ℕ) → m ≤ n → length cuts ≤ m → AreShort fixes cuts → cut_count cuts ≤ n * fixes
@@ -63,7 +62,7 @@ module _ (f : ExactField) (act : Action) where
       (subst (λ (e : List (ℕ × (ℕ → Value f))). IsMeet f.laws act.dim (form_at old i) e (form_at new p)) (sym (c.1.1.1.grown.first k kl))
       (subst (IsMeet f.laws act.dim (form_at old i) (form_at old k)) (sym c.1.1.1.there) c.1.1.0))
 
-  module _ (old new : List (List (ℕ × (ℕ → Value f)))) (places elements : List ℕ) (cuts : List (List ℕ)) (sources named : List (ℕ × ℕ)) (i k p : ℕ)
+  module _ (old new : List (List (ℕ × (ℕ → Value f)))) (places elements : List ℕ) (cuts written : List (List ℕ)) (sources named : List (ℕ × ℕ)) (i k p : ℕ)
       (t : IsClosing f.laws act old places elements cuts sources) (il : i < length old) (kl : k < length elements)
       (note : IsCutNoted cuts i k (suc p) written) (rows : length written ≤ length new) (short : AreShort (length elements) written) (c : IsCutAt f.laws act old i k new p) (n : IsNoted (length old) (length new) (i, k) sources named) where
     one : IsSingleSpace f.laws act (form_at old k)
@@ -213,10 +212,6 @@ module _ (f : ExactField) (act : Action) where
         ),
       )
 
-  pub grown-image : (old new : List (List (ℕ × (ℕ → Value f)))) → IsGrown old new → (a i j : ℕ) → i < length old → j < length old → IsImageForm f.laws act a (form_at old i) (form_at old j) → IsImageForm f.laws act a (form_at new i) (form_at new j)
-  grown-image old new t a i j il jl h =
-      subst (λ (u : List (ℕ × (ℕ → Value f))). IsImageForm f.laws act a u (form_at new j)) (sym (t.first i il)) (subst (IsImageForm f.laws act a (form_at old i)) (sym (t.first j jl)) h)
-
   -- the image of a form is the cut of the images of the two whose cut it is
   pub closing-image : IsAction f.laws act → (old new : List (List (ℕ × (ℕ → Value f)))) (places elements : List ℕ) (cuts : List (List ℕ)) (sources : List (ℕ × ℕ)) →
       IsClosing f.laws act old places elements cuts sources → IsGrown old new → (a j at fix y : ℕ) (s : ℕ × ℕ) → j < length sources → s ≡ get_or sources j (0, 0) → at < length old → fix < length elements →
@@ -274,47 +269,3 @@ module _ (f : ExactField) (act : Action) where
       let l = o.0 in
       let longer = t.longer in
       (omega arith, reached-grown old new t i l o.1)
-
-  -- images stay so
-  pub row-grown : (old new : List (List (ℕ × (ℕ → Value f)))) (i n : ℕ) (found : List ℕ) → IsGrown old new → i < length old → IsImageRow f.laws act old i n found → IsImageRow f.laws act new i n found
-  row-grown old new i n found t il r = record {
-    size = r.size;
-    image = λ p l.
-        let o = r.image p l in
-        let ol = o.0 in
-        let longer = t.longer in
-        (omega arith, grown-image old new t (act.generator p) i (get_or found p 0) il ol o.1);
-  }
-
-  pub images-grown : (old new : List (List (ℕ × (ℕ → Value f)))) (images : List (List ℕ)) → IsGrown old new → length images ≤ length old → AreImages f.laws act old images → AreImages f.laws act new images
-  images-grown old new images t short a i l = let il : i < length old = omega arith in row-grown old new i act.generators (get_or images i []) t il (a i l)
-
-  -- one more image
-  pub row-more : (forms : List (List (ℕ × (ℕ → Value f)))) (i n y : ℕ) (found : List ℕ) → IsImageRow f.laws act forms i n found → y < length forms → IsImageForm f.laws act (act.generator n) (form_at forms i) (form_at forms y) →
-      IsImageRow f.laws act forms i (suc n) (found ++ y ∷ [])
-  row-more forms i n y found r l h =
-      let size = r.size in
-      record {
-        size = length-last found y ∙ ap suc size;
-        image = λ p m.
-            let pl : p < length (found ++ y ∷ []) = let n = length-last found y in omega arith in
-            each-last (λ p z. (z < length forms) × IsImageForm f.laws act (act.generator p) (form_at forms i) (form_at forms z)) found y 0
-            (λ p k. let pn : p < n = omega arith in r.image p pn)
-            (l, subst (λ (z : ℕ). IsImageForm f.laws act (act.generator z) (form_at forms i) (form_at forms y)) (sym size) h) p pl;
-      }
-
-  -- one more row
-  pub images-more : (forms : List (List (ℕ × (ℕ → Value f)))) (images : List (List ℕ)) (found : List ℕ) → AreImages f.laws act forms images → IsImageRow f.laws act forms (length images) act.generators found → AreImages f.laws act forms (images ++ found ∷ [])
-  images-more forms images found a r = each-last (λ i z. IsImageRow f.laws act forms i act.generators z) images found [] a r
-
-  -- one more mark
-  pub covered-more : (forms : List (List (ℕ × (ℕ → Value f)))) (covered : List Bool) (y : ℕ) → AreCovered f.laws act forms covered → y < length forms → IsReached f.laws act forms y → AreCovered f.laws act forms (set covered y true)
-  covered-more forms covered y c l r i h =
-      elim (same i y) [
-        | inl e ↦ (subst (λ (z : ℕ). z < length forms) (sym e) l, subst (IsReached f.laws act forms) (sym e) r)
-        | inr n ↦ c i (sym (get_or-set_other covered y i true false n) ∙ h)
-      ]
-
-  -- one more place
-  pub queue-more : (forms : List (List (ℕ × (ℕ → Value f)))) (queue : List ℕ) (y : ℕ) → AreReached f.laws act forms queue → y < length forms → IsReached f.laws act forms y → AreReached f.laws act forms (queue ++ y ∷ [])
-  queue-more forms queue y a l r = each-last (λ t z. (z < length forms) × IsReached f.laws act forms z) queue y 0 a (l, r)

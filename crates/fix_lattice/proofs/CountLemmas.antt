@@ -1,5 +1,5 @@
 -- How many forms are held.
-use Rattle.std.proofs.Common.{◌≡◌, ◌↔◌, ℕ, sym, ◌∙◌, subst, ◌+◌, Option, Some, None, ◌<◌, ◌≤◌, ◌⊎◌, inl, inr, Bool, true, List, [], ◌∷◌, ◌++◌, arith, length, get_or}
+use Rattle.std.proofs.Common.{◌≡◌, ◌↔◌, ℕ, sym, ◌∙◌, subst, ◌+◌, ◌<◌, ◌≤◌, ◌⊎◌, inl, inr, Bool, true, List, [], arith, length, get_or}
 use Rattle.cyclo24.specs.ExactField.{ExactField, Value}
 use Rattle.lin_alg.specs.Action.{Action}
 use Rattle.lin_alg.specs.Echelon.{EchelonView}

@@ -1,8 +1,8 @@
 -- Rows of noted cuts.
-use Rattle.std.proofs.Common.{◌≡◌, ℕ, suc, zero, ◌<◌, ◌≤◌, ◌+◌, ◌*◌, ◌-◌, ◌⊎◌, inl, inr, refl, sym, ◌∙◌, ap, subst, List, [], ◌∷◌, ◌++◌, arith, length, get_or, set, take, replicate, length-set, Option, Some, None}
+use Rattle.std.proofs.Common.{◌≡◌, ℕ, suc, zero, ◌<◌, ◌≤◌, ◌+◌, ◌*◌, ◌-◌, ◌⊎◌, inl, inr, refl, sym, ◌∙◌, ap, subst, List, [], ◌∷◌, ◌++◌, arith, length, get_or, set, length-set, map, Option, Some, None}
 use Rattle.std.specs.List.{sum_by}
-use Rattle.std.proofs.lemmas.List.{get_or-set_same, get_or-set_other, length-replicate}
-use Rattle.std.proofs.lemmas.List.Sums.{sum_by-cons, sum_by-append, sum_by_push, sum_by-set}
+use Rattle.std.proofs.lemmas.List.{get_or-map, get_or-set_same, get_or-set_other, length-map, map-set}
+use Rattle.std.proofs.lemmas.List.Sums.{sum_by-cons, sum_by_push, sum_by-set}
 use Rattle.std.proofs.Math.Nat.{add-mul, one-mul}
 use Rattle.lin_alg.specs.EquationLaws.{dec}
 use Rattle.fix_lattice.specs.Cuts.{cut_entry, cut_count, noted, AreShort, IsCutNoted, IsPlaced, IsRowMade}
@@ -19,15 +19,16 @@ get_or-past (x ∷ xs) (suc i) d l = get_or-past xs i d (omega arith)
 
 -- an entry that isn't 0 stands inside
 pub entry-inside : (cuts : List (List ℕ)) (i k d : ℕ) → cut_entry cuts i k ≡ suc d → (i < length cuts) × (k < length (get_or cuts i []))
-entry-inside cuts i k d e =
-    (elim (dec i (length cuts)) as (λ _. i < length cuts) [
-      | inl l ↦ l
-      | inr l ↦ let z : 0 ≡ suc d = sym (ap (λ (r : List ℕ). get_or r k 0) (get_or-past cuts i [] l)) ∙ e in absurd (omega arith)
-    ],
-    elim (dec k (length (get_or cuts i []))) as (λ _. k < length (get_or cuts i [])) [
-      | inl l ↦ l
-      | inr l ↦ let z : 0 ≡ suc d = sym (get_or-past (get_or cuts i []) k 0 l) ∙ e in absurd (omega arith)
-    ])
+entry-inside cuts i k d e = (
+  elim (dec i (length cuts)) as (λ _. i < length cuts) [
+    | inl l ↦ l
+    | inr l ↦ let z : 0 ≡ suc d = sym (ap (λ (r : List ℕ). get_or r k 0) (get_or-past cuts i [] l)) ∙ e in absurd (omega arith)
+  ],
+  elim (dec k (length (get_or cuts i []))) as (λ _. k < length (get_or cuts i [])) [
+    | inl l ↦ l
+    | inr l ↦ let z : 0 ≡ suc d = sym (get_or-past (get_or cuts i []) k 0 l) ∙ e in absurd (omega arith)
+  ],
+)
 
 noted-one : (x : ℕ) → noted x ≤ 1
 noted-one zero = omega arith
@@ -140,47 +141,62 @@ made-row n i cuts row s il h c l = record {
   ];
 }
 
-get_or-zeros : (n b : ℕ) → get_or (replicate n 0) b 0 ≡ 0
-get_or-zeros zero b = refl
-get_or-zeros (suc n) zero = refl
-get_or-zeros (suc n) (suc b) = get_or-zeros n b
-
--- zeros at the end change no entry
-pub zeros-entry : (xs : List ℕ) (n b : ℕ) → get_or (xs ++ replicate n 0) b 0 ≡ get_or xs b 0
-zeros-entry [] n b = get_or-zeros n b
-zeros-entry (x ∷ xs) n zero = refl
-zeros-entry (x ∷ xs) n (suc b) = zeros-entry xs n b
-
-zeros-none : (n : ℕ) → sum_by noted (replicate n 0) ≡ 0
-zeros-none zero = refl
-zeros-none (suc n) = let e : sum_by noted (0 ∷ replicate n 0) ≡ noted 0 + sum_by noted (replicate n 0) = sum_by-cons noted 0 (replicate n 0) in let d = zeros-none n in omega arith
-
--- and note no cut
-pub zeros-count : (xs : List ℕ) (n : ℕ) → sum_by noted (xs ++ replicate n 0) ≡ sum_by noted xs
-zeros-count xs n = let e = sum_by-append noted xs (replicate n 0) in let d = zeros-none n in omega arith
-
-pub take-whole : {X : Type 0} (n : ℕ) (xs : List X) → length xs ≤ n → take n xs ≡ xs
-take-whole zero [] l = refl
-take-whole zero (x ∷ xs) l = absurd (omega arith)
-take-whole (suc n) [] l = refl
-take-whole (suc n) (x ∷ xs) l = ap (λ z. x ∷ z) (take-whole n xs (omega arith))
-
--- a row after zeros were added
-pub widened : (n m : ℕ) (old new : List ℕ) → length old ≤ n → m ≡ length old → new ≡ take n old ++ replicate (n - m) 0 →
-    ((b : ℕ) → get_or new b 0 ≡ get_or old b 0) × (sum_by noted new ≡ sum_by noted old)
-widened n m old new l e h =
-    let d : new ≡ old ++ replicate (n - m) 0 = h ∙ ap (λ z. z ++ replicate (n - m) 0) (take-whole n old l) in
-    (λ b. ap (λ z. get_or z b 0) d ∙ zeros-entry old (n - m) b, ap (sum_by noted) d ∙ zeros-count old (n - m))
-
 pub placed-some : (cuts : List (List ℕ)) (i k : ℕ) (r : Option ℕ) (p : ℕ) → r ≡ Some p → IsPlaced cuts i k r → cut_entry cuts i k ≡ suc p
 placed-some cuts i k r p e h = subst (IsPlaced cuts i k) e h
 
 pub placed-none : (cuts : List (List ℕ)) (i k : ℕ) (r : Option ℕ) → r ≡ None → IsPlaced cuts i k r → cut_entry cuts i k ≡ 0
 placed-none cuts i k r e h = subst (IsPlaced cuts i k) e h
 
--- an entry as the place of a cut, or as none
-pub place-none : (cuts : List (List ℕ)) (i k x : ℕ) → x ≡ cut_entry cuts i k → x ≡ 0 → cut_entry cuts i k ≡ 0
-place-none cuts i k x e z = sym e ∙ z
+-- rows that a list of vectors holds
+module _ {A : Type 0} (items : A → List ℕ) (rows : List A) (i : ℕ) (x : A) (l : i < length rows) (e : x ≡ get_or rows i x) where
+  pub row-read : get_or (map items rows) i [] ≡ items x
+  row-read = get_or-map items rows i x [] l ∙ ap items (sym e)
 
-pub place-some : (cuts : List (List ℕ)) (i k x : ℕ) → x ≡ cut_entry cuts i k → (x ≡ 0 → ⊥) → cut_entry cuts i k ≡ suc (x - 1)
-place-some cuts i k x e n = let l : x ≡ suc (x - 1) = omega arith in sym e ∙ l
+  row-there : i < length (map items rows)
+  row-there = let n = length-map rows items in omega arith
+
+  -- one row is another
+  pub row-set : (y : A) → get_or (map items (set rows i y)) i [] ≡ items y
+  row-set y = ap (λ (z : List (List ℕ)). get_or z i []) (map-set items rows i y) ∙ get_or-set_same (map items rows) i (items y) [] row-there
+
+  -- one entry of one row is written
+  pub rows-written : (y : A) (k v : ℕ) → items y ≡ set (items x) k v → map items (set rows i y) ≡ set (map items rows) i (set (get_or (map items rows) i []) k v)
+  rows-written y k v h = map-set items rows i y ∙ ap (set (map items rows) i) (h ∙ ap (λ (r : List ℕ). set r k v) (sym row-read))
+
+  -- one row has the same entries
+  pub rows-made : (n : ℕ) (y : A) → AreShort n (map items rows) → ((b : ℕ) → get_or (items y) b 0 ≡ get_or (items x) b 0) → sum_by noted (items y) ≡ sum_by noted (items x) → length (items y) ≤ n →
+      IsRowMade n (map items rows) (map items (set rows i y))
+  rows-made n y s h c w =
+      subst (IsRowMade n (map items rows)) (sym (map-set items rows i y))
+      (made-row n i (map items rows) (items y) s row-there (λ b. h b ∙ ap (λ (r : List ℕ). get_or r b 0) (sym row-read)) (c ∙ ap (sum_by noted) (sym row-read)) w)
+
+-- one more row
+pub rows-more : {A : Type 0} (items : A → List ℕ) (old new : List A) → map items new ≡ map items old ++ [] ∷ [] → length new ≡ suc (length old)
+rows-more items old new e =
+    let a = length-map new items in
+    let b = length-map old items in
+    let c = ap length e ∙ length-last (map items old) [] in
+    omega arith
+
+-- a first entry is noted
+module _ (n : ℕ) (old made written : List (List ℕ)) (i k x d : ℕ) (m : IsRowMade n old made) (none : cut_entry old i k ≡ 0) (is : x ≡ suc d)
+    (il : i < length made) (kl : k < length (get_or made i [])) (w : written ≡ set made i (set (get_or made i []) k x)) where
+  pub begun-noted : IsCutNoted old i k x written
+  begun-noted = noted-made n old made written i k x m (subst (IsCutNoted made i k x) (sym w) (noted-set made i k x il kl))
+
+  pub begun-count : cut_count written ≡ suc (cut_count old)
+  begun-count =
+      let e : noted (cut_entry made i k) ≡ 0 = ap noted (m.entry i k ∙ none) in
+      let c = count-set made i k x il kl d is in
+      let o = m.count in
+      let s : cut_count written ≡ cut_count (set made i (set (get_or made i []) k x)) = ap cut_count w in
+      omega arith
+
+  pub begun-short : AreShort n written
+  begun-short = subst (AreShort n) (sym w) (short-set made i k x il kl n m.short)
+
+  pub begun-inside : k < length (get_or written i [])
+  begun-inside =
+      let e : get_or written i [] ≡ set (get_or made i []) k x = ap (λ (z : List (List ℕ)). get_or z i []) w ∙ get_or-set_same made i (set (get_or made i []) k x) [] il in
+      let c : length (get_or written i []) ≡ length (get_or made i []) = ap length e ∙ length-set (get_or made i []) k x in
+      omega arith

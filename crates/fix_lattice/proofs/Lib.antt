@@ -5,6 +5,7 @@ mod InsertLemmas
 mod MoverLemmas
 mod HeldLemmas
 mod ClassLemmas
+mod ImageRowLemmas
 mod ClosingLemmas
 mod CutLemmas
 mod CountLemmas

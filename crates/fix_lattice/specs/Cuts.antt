@@ -8,7 +8,7 @@
 -- IsPlaced cuts i k r: the answer is the place that entry k of row i notes, or none
 -- IsRowMade n old new: rows of zeros were made
 -- AreFewCuts f act limit fixes cuts: no more cuts than forms times Fix(q), for each bound on the forms
-use Rattle.std.specs.Prelude.{◌≡◌, ℕ, suc, zero, ◌<◌, ◌≤◌, ◌*◌, ◌⊎◌, ℤ, Bool, List, [], Option, MatchOption, length, get_or}
+use Rattle.std.specs.Prelude.{◌≡◌, ℕ, suc, zero, ◌≤◌, ◌*◌, ◌⊎◌, ℤ, Bool, List, [], Option, MatchOption, length, get_or}
 use Rattle.std.specs.List.{sum_by}
 use Rattle.cyclo24.specs.FieldOn.{FieldOn}
 use Rattle.cyclo24.specs.ExactField.{Exact}

@@ -148,9 +148,7 @@ fn close_classes<F: Field, G: Acts<F>, L: Ledger>(
         if at >= tables.held.len() {
             return Ok(());
         }
-        visit(
-            given, tables, images, covered, at, row, steps,
-        )?;
+        visit(given, tables, images, covered, at, row, steps)?;
     }
     Ok(())
 }
@@ -191,9 +189,7 @@ fn visit<F: Field, G: Acts<F>, L: Ledger>(
     if covered[at] {
         return Ok(());
     }
-    close_class(
-        given, tables, images, covered, at, row, steps,
-    )
+    close_class(given, tables, images, covered, at, row, steps)
 }
 
 // Cuts a form with each Fix(q), finds the images of what is new, and marks the form's class.

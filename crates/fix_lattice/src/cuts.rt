@@ -83,12 +83,7 @@ fn write_entry(row: &mut Vec<u16>, k: usize, x: u16)
 }
 
 // Makes row i, of n entries.
-fn make_row(
-    alloc: Global,
-    cuts: &mut Vec<Vec<u16>>,
-    i: usize,
-    n: usize,
-) -> Result<(), NoMemory>
+fn make_row(alloc: Global, cuts: &mut Vec<Vec<u16>>, i: usize, n: usize) -> Result<(), NoMemory>
     requires row { i < 16384 }
     requires short { AreShort n (map (λ r. r.items) cuts.old.items) }
     ensures made { IsRowMade n (map (λ r. r.items) cuts.old.items) (map (λ r. r.items) cuts.new.items) }
@@ -101,12 +96,7 @@ fn make_row(
 }
 
 // Adds empty rows until there are as many as asked.
-fn add_rows(
-    alloc: Global,
-    cuts: &mut Vec<Vec<u16>>,
-    rows: usize,
-    n: usize,
-) -> Result<(), NoMemory>
+fn add_rows(alloc: Global, cuts: &mut Vec<Vec<u16>>, rows: usize, n: usize) -> Result<(), NoMemory>
     requires { AreShort n (map (λ r. r.items) cuts.old.items) }
     ensures made { IsRowMade n (map (λ r. r.items) cuts.old.items) (map (λ r. r.items) cuts.new.items) }
     ensures few { (m : ℕ) → length cuts.old.items ≤ m → rows ≤ m → length cuts.new.items ≤ m }

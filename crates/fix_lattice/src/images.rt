@@ -84,9 +84,7 @@ fn image_row<F: Field, G: Acts<F>, L: Ledger>(
 {
     let mut found = Vec::new(given.alloc);
     for p in 0..given.acts.generators() {
-        let place = image_at(
-            given, tables, images, i, p, row, steps,
-        )?;
+        let place = image_at(given, tables, images, i, p, row, steps)?;
         push(&mut found, place)?;
     }
     Ok(found)

@@ -10,10 +10,9 @@ ghost use Rattle.fix_lattice.specs.Lattice.{form_at, AreMoreFixes};
 ghost use Rattle.fix_lattice.specs.Wide.{IsWideFixes};
 
 use crate::cutting::{cut_form, put};
-use crate::cuts;
 use crate::memory::push_if;
 use crate::singles::Singles;
-use crate::{CloseError, Form};
+use crate::{CloseError, Form, cuts};
 use cyclo24::Field;
 use indexmap::IndexSet;
 use lin_alg::{Acts, LinError, Steps};

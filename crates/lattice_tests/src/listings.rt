@@ -1,8 +1,9 @@
 // Listings worked out by hand, in both orders, and their pages.
 ghost use Rattle.std.specs.Prelude.{◌≡◌, ◌<◌, ◌≤◌};
 
-use crate::Prism;
 use crate::flips::{Flips, flips_of_two};
+use crate::prism::Prism;
+use crate::tetrahedron::Tetrahedron;
 use class_list::{Direction, Listing, Order, listing, stabiliser};
 use cyclo24::{Field, K24};
 use fix_lattice::close;
@@ -206,5 +207,31 @@ fn only_the_identity_fixes_all(rt: HostRuntime) -> Result<(), Fail> {
     let none = Echelon::<K24>::new(rt.alloc(), 4);
     let elements = stabiliser(rt.alloc(), &Prism, &none)?;
     assert!(rt; elements.as_slice() == [0].as_slice());
+    Ok(())
+}
+
+// The four directions of the tetrahedron's rotations, in both orders: the zero vector, a diagonal, an
+// axis, all.
+fn lists_tetrahedron(listing: &Listing<K24>) -> bool {
+    are_expected(
+        listing,
+        3,
+        &[
+            wanted(&ALL, &[[1, 0, 0, 0], [0, 1, 0, 0], [0, 0, 1, 0]]),
+            wanted(&[0, 4, 8], &[[-1, 1, 0, 0], [-1, 0, 1, 0]]),
+            wanted(&[0, 1], &[[0, 1, 0, 0], [0, 0, 1, 0]]),
+            wanted(&[0], &[]),
+        ],
+    )
+}
+
+#[test]
+fn tetrahedron_in_both_orders(rt: HostRuntime) -> Result<(), Fail> {
+    for order in [Order::Dimension, Order::Index] {
+        let listing = listing_of::<K24, Tetrahedron>(rt.alloc(), &Tetrahedron, order).ok_or(
+            "none",
+        )?;
+        assert!(rt; lists_tetrahedron(&listing));
+    }
     Ok(())
 }

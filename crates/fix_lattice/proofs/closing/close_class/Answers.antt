@@ -2,7 +2,8 @@ use Rattle.fix_lattice.specs.Cuts.{cut_count}
 use Rattle.std.proofs.Common.{◌≡◌, ◌<◌, ◌≤◌, ◌*◌, length, map, arith, ℕ, List, Vec, Global, sym, subst}
 use Rattle.std.proofs.lemmas.List.{length-map}
 use Rattle.fix_lattice.specs.Classes.{AreImages}
-use Rattle.fix_lattice.proofs.ClosingLemmas.{images-grown, covered-grown, reached-own, grown-each}
+use Rattle.fix_lattice.proofs.ImageRowLemmas.{images-grown}
+use Rattle.fix_lattice.proofs.ClosingLemmas.{covered-grown, reached-own, grown-each}
 use Rattle.fix_lattice.proofs.HeldLemmas.{grown-then}
 use Rattle.fix_lattice.specs.Subspaces.{exact_forms}
 use Rattle.fix_lattice.proofs.CostLemmas.{cost-then}

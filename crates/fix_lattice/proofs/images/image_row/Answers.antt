@@ -3,7 +3,7 @@ use Rattle.std.proofs.Common.{◌≡◌, ◌<◌, ◌≤◌, ◌*◌, ℕ, refl,
 use Rattle.std.proofs.lemmas.List.{length-map}
 use Rattle.lin_alg.specs.RowLaws.{equality-told}
 use Rattle.fix_lattice.specs.Classes.{IsImageRow}
-use Rattle.fix_lattice.proofs.ClosingLemmas.{row-grown, row-more, images-grown}
+use Rattle.fix_lattice.proofs.ImageRowLemmas.{row-grown, row-more, images-grown}
 use Rattle.fix_lattice.proofs.HeldLemmas.{grown-own, grown-then}
 use Rattle.fix_lattice.specs.Subspaces.{exact_forms}
 use Rattle.fix_lattice.proofs.CostLemmas.{cost-then}

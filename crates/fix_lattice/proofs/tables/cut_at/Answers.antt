@@ -1,12 +1,10 @@
-use Rattle.std.proofs.Common.{◌≡◌, ◌<◌, ◌≤◌, ◌+◌, ◌*◌, inl, inr, ℕ, suc, List, sym, ◌∙◌, ap, subst, length, map, get_or, set, length-set, [], arith, lt-ltb, le-ltb}
+use Rattle.std.proofs.Common.{◌≡◌, ◌<◌, ◌≤◌, ◌+◌, ◌*◌, inl, inr, ℕ, suc, sym, ◌∙◌, ap, subst, length, map, get_or, set, length-set, [], arith, lt-ltb, le-ltb}
 use Rattle.std.proofs.lemmas.List.{length-map}
 use Rattle.lin_alg.specs.EquationLaws.{dec}
 use Rattle.lin_alg.specs.RowLaws.{equality-told}
-use Rattle.fix_lattice.specs.Classes.{IsClosing}
-use Rattle.fix_lattice.specs.Cuts.{cut_count, cut_entry, noted, AreShort, AreFewCuts, IsCutNoted}
+use Rattle.fix_lattice.specs.Cuts.{cut_count, cut_entry, noted, AreShort, IsCutNoted}
 use Rattle.fix_lattice.specs.FormLaws.{exact-length}
-use Rattle.fix_lattice.specs.Held.{IsMeet, IsNoted}
-use Rattle.fix_lattice.specs.Lattice.{form_at}
+use Rattle.fix_lattice.specs.Held.{IsNoted}
 use Rattle.fix_lattice.specs.Subspaces.{exact_forms}
 use Rattle.fix_lattice.proofs.ClosingLemmas.{closing-cut, cut-meet}
 use Rattle.fix_lattice.proofs.CostLemmas.{cost-cut, cost-same}
