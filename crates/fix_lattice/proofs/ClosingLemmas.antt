@@ -229,7 +229,7 @@ module _ (f : ExactField) (act : Action) where
       let lf : fix < length old = omega arith in
       image-meet f act law a (form_at new s.0) (form_at new s.1) (form_at new (length elements + j)) (form_at new at) (form_at new fix) (form_at new y)
       (grown-meet f act old new grown s.0 s.1 (length elements + j) l0 l1 li o.1.1) m
-      (grown-image old new grown a s.0 at l0 atl iu) (grown-image old new grown a s.1 fix l1 lf ie)
+      (grown-image f act old new grown a s.0 at l0 atl iu) (grown-image f act old new grown a s.1 fix l1 lf ie)
 
   -- cuts stay
   pub grown-cuts : (old new : List (List (ℕ × (ℕ → Value f)))) → IsGrown old new → (fixes j n : ℕ) → fixes ≤ length old → j < length old →
@@ -260,7 +260,7 @@ module _ (f : ExactField) (act : Action) where
   reached-grown old new t i il r =
       let jl = r.2.0 in
       let longer = t.longer in
-      (r.0, r.1, (omega arith, (r.2.1.0, (grown-each old new t r.0 jl r.2.1.1.0, grown-image old new t r.1 r.0 i jl il r.2.1.1.1))))
+      (r.0, r.1, (omega arith, (r.2.1.0, (grown-each old new t r.0 jl r.2.1.1.0, grown-image f act old new t r.1 r.0 i jl il r.2.1.1.1))))
 
   -- marked forms stay so
   pub covered-grown : (old new : List (List (ℕ × (ℕ → Value f)))) (covered : List Bool) → IsGrown old new → AreCovered f.laws act old covered → AreCovered f.laws act new covered

@@ -141,11 +141,11 @@ made-row n i cuts row s il h c l = record {
   ];
 }
 
-pub placed-some : (cuts : List (List ℕ)) (i k : ℕ) (r : Option ℕ) (p : ℕ) → r ≡ Some p → IsPlaced cuts i k r → cut_entry cuts i k ≡ suc p
-placed-some cuts i k r p e h = subst (IsPlaced cuts i k) e h
+pub placed-some : {A : Type 0} (items : A → List ℕ) (xs ys : List A) (i k : ℕ) (r : Option ℕ) (p : ℕ) → xs ≡ ys → r ≡ Some p → IsPlaced (map items xs) i k r → cut_entry (map items ys) i k ≡ suc p
+placed-some {A} items xs ys i k r p e d h = subst (λ (z : List A). cut_entry (map items z) i k ≡ suc p) e (subst (IsPlaced (map items xs) i k) d h)
 
-pub placed-none : (cuts : List (List ℕ)) (i k : ℕ) (r : Option ℕ) → r ≡ None → IsPlaced cuts i k r → cut_entry cuts i k ≡ 0
-placed-none cuts i k r e h = subst (IsPlaced cuts i k) e h
+pub placed-none : {A : Type 0} (items : A → List ℕ) (xs ys : List A) (i k : ℕ) (r : Option ℕ) → xs ≡ ys → r ≡ None → IsPlaced (map items xs) i k r → cut_entry (map items ys) i k ≡ 0
+placed-none {A} items xs ys i k r e d h = subst (λ (z : List A). cut_entry (map items z) i k ≡ 0) e (subst (IsPlaced (map items xs) i k) d h)
 
 -- rows that a list of vectors holds
 module _ {A : Type 0} (items : A → List ℕ) (rows : List A) (i : ℕ) (x : A) (l : i < length rows) (e : x ≡ get_or rows i x) where
