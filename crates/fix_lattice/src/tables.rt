@@ -1,4 +1,4 @@
-// Cuts of held forms, each pair once.
+// Cuts of held forms, each form with a Fix(q) once.
 ghost use Rattle.std.specs.Prelude.{◌≡◌, ◌<◌, ◌≤◌, ◌+◌, ◌*◌, ◌⊎◌, ℕ, Err, IfOk, OnOk, length, map};
 ghost use Rattle.lin_alg.specs.Action.{Action};
 ghost use Rattle.fix_lattice.specs.declared.errors.CloseError.TheVariants as close_error;
