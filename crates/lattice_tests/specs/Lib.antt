@@ -18,3 +18,7 @@ pub mod PrismLaws
 pub mod Tetrahedra
 -- their action is lawful
 pub mod TetrahedronLaws
+-- the group of the octahedron
+pub mod Octahedra
+-- its action is lawful
+pub mod OctahedronLaws

@@ -7,6 +7,10 @@ mod flips;
 #[cfg(test)]
 mod listings;
 #[cfg(test)]
+mod octahedron;
+#[cfg(test)]
+mod octahedron_tables;
+#[cfg(test)]
 mod prism;
 #[cfg(test)]
 mod subspaces;

@@ -1,8 +1,9 @@
 // Fixed subspaces: of all sign changes of six coordinates, one for each set of coordinates that are 0, and
-// of two groups by tables.
+// of three groups by tables.
 ghost use Rattle.std.specs.Prelude.{◌≡◌, ◌<◌, ◌≤◌, ◌^◌};
 
 use crate::flips::{Flips, flips_of_six};
+use crate::octahedron::Octahedron;
 use crate::prism::Prism;
 use crate::tetrahedron::Tetrahedron;
 use cyclo24::{Field, K24};
@@ -148,4 +149,11 @@ fn spaces_of_the_prism(rt: HostRuntime) {
 #[test]
 fn spaces_of_the_tetrahedron(rt: HostRuntime) {
     assert!(rt; has_just(rt.alloc(), &Tetrahedron, 9));
+}
+
+// The octahedron: the zero vector, three axes, four diagonals, six diagonals of faces, nine mirror
+// planes, all.
+#[test]
+fn spaces_of_the_octahedron(rt: HostRuntime) {
+    assert!(rt; has_just(rt.alloc(), &Octahedron, 24));
 }
