@@ -7,10 +7,16 @@ mod flips;
 #[cfg(test)]
 mod listings;
 #[cfg(test)]
+mod octahedron;
+#[cfg(test)]
+mod octahedron_tables;
+#[cfg(test)]
 mod prism;
 #[cfg(test)]
 mod subspaces;
 #[cfg(test)]
 mod tables;
+#[cfg(test)]
+mod tetrahedron;
 #[cfg(test)]
 mod writing;
