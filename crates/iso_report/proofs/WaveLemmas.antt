@@ -1,5 +1,5 @@
 -- The wave vectors of a file.
-use Rattle.std.proofs.Common.{◌≡◌, sym, ap, ◌∙◌, subst, ℕ, ◌*◌, ◌/◌, ◌%◌, ◌<◌, ℤ, pos, ◌*ℤ◌, List, [], ◌∷◌, length, map, get_or, arith, slice_index_or}
+use Rattle.std.proofs.Common.{◌≡◌, sym, ap, ◌∙◌, subst, ℕ, ◌*◌, ◌/◌, ◌%◌, ◌<◌, pos, ◌*ℤ◌, List, [], ◌∷◌, length, map, get_or, arith, slice_index_or}
 use Rattle.std.proofs.lemmas.List.{get_or-map, length-map}
 use Rattle.std.proofs.Math.IntN.{pos-*ℤ-pos}
 use Rattle.algebra.specs.WholeLaws.{whole_ring}

@@ -11,7 +11,7 @@ returns-in-Passed c =
     let matrices = c.in-Passed.irreps.items in
     let all = rw c.in-Passed.is at c.in_ok-irreps.ensures in
     let held = each-moved IsInducedHeld c.divided.inside.quotient d.quotient c.irreps.result.now d.file.irreps matrices (ap (λ (x : Divided). x.quotient) c.divided.view_is)
-          (c.irreps.ensures ∙ ap (λ (x : Divided). x.file.irreps) c.divided.view_is) all in
+    (c.irreps.ensures ∙ ap (λ (x : Divided). x.file.irreps) c.divided.view_is) all in
     ((induced-given d.quotient d.file.irreps matrices held, refl), held)
 
 pub returns-in-Refused : goal.returns-in-Refused

@@ -11,7 +11,7 @@ returns-in-Passed c =
     let reps = c.in-Passed.reps.items in
     let all = rw c.in-Passed.is at c.in_ok-reps.ensures in
     let held = each-moved IsRepHeld c.divided.inside.quotient d.quotient c.irreps.result.now d.file.irreps reps (ap (λ (x : Divided). x.quotient) c.divided.view_is)
-          (c.irreps.ensures ∙ ap (λ (x : Divided). x.file.irreps) c.divided.view_is) all in
+    (c.irreps.ensures ∙ ap (λ (x : Divided). x.file.irreps) c.divided.view_is) all in
     ((reps-given d.quotient d.file.irreps reps held, refl), held)
 
 pub returns-in-Refused : goal.returns-in-Refused

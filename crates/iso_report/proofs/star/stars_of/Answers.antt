@@ -15,5 +15,5 @@ returns-in-Passed c =
     let stars = c.in-Passed.stars.items in
     let all = rw c.in-Passed.is at c.in_ok-stars.ensures in
     let held = each-moved IsStarHeld c.parented.inside.group p.parent c.irreps.result.now p.file.irreps stars (ap (λ (x : Parented). x.parent) c.parented.view_is)
-          (c.irreps.ensures ∙ ap (λ (x : Parented). x.file.irreps) c.parented.view_is) all in
+    (c.irreps.ensures ∙ ap (λ (x : Parented). x.file.irreps) c.parented.view_is) all in
     ((stars-phases p.parent p.file.irreps stars held, refl), held)
