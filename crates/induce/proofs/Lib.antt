@@ -1,0 +1,10 @@
+pub mod ListLemmas
+pub mod ArmLemmas
+pub mod MoveLemmas
+pub mod PlaceLemmas
+pub mod ProductLemmas
+pub mod CharacterLemmas
+pub mod WeightLemmas
+pub mod KindLemmas
+pub mod SumLemmas
+pub mod NewLemmas

@@ -1,0 +1,14 @@
+pub mod CellPhase
+pub mod Induced
+pub mod Kinds
+pub mod Arms
+pub mod Tables
+pub mod Weights
+pub mod Wide
+pub mod InducedView
+pub mod InsideView
+pub mod CellPhaseLaws
+pub mod CellLaws
+pub mod InducedLaws
+pub mod PartLaws
+pub mod TableLaws

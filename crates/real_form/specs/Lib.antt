@@ -1,0 +1,14 @@
+pub mod Parts
+pub mod Orbits
+pub mod Bases
+pub mod Complexes
+pub mod Candidates
+pub mod Wide
+pub mod Products
+pub mod RealBasis
+pub mod Spanned
+pub mod Vectors
+pub mod Actions
+pub mod Held
+pub mod KeptBasis
+pub mod RealForm
