@@ -13,7 +13,7 @@ use Rattle.super_group.specs.QuotientLaws.{row_below}
 use Rattle.real_form.specs.Parts.{Parts, lifted, orbit, real_image}
 use Rattle.real_form.specs.Bases.{row_at, pivot_at, matrix_of, AreMatricesIn}
 use Rattle.real_form.proofs.FormLaws.{factors-same, same-in, same-multiply, same-identity}
-use Rattle.real_form.proofs.Factors.{block-end, below_order, some_translation}
+use Rattle.real_form.proofs.Factors.{block-end, some_translation}
 use Rattle.real_form.specs.Actions.{stacked, factored_entry}
 
 module _ {A K : Type 0} (f : FieldOn K) (value : A → K) where
@@ -67,8 +67,8 @@ module _ (s : SupercellGroup) (h : IsQuotient s) where
 
 -- the entries of kept matrices of d rows are those at the pivots
 pub record AreFactors {A Z K : Type 0} (p : Parts Z K) (value : A → K) (n : ℕ) (s : SupercellGroup) (D : ℕ → ℕ → ℕ → Z) (rs : List (ℕ × (ℕ → K))) (left right : MatrixView A) (d : ℕ) : Type 0 where
-  pub left : (t i j : ℕ) → t < length s.translations → i < d → j < d → entry p.real value left (t * d + i) j ≡ matrix_of p.real rs (real_image p n D) t i j
-  pub right : (r i j : ℕ) → r < length s.parent.ops → i < d → j < d → entry p.real value right (r * d + i) j ≡ matrix_of p.real rs (real_image p n D) (r * length s.translations) i j
+  pub translations : (t i j : ℕ) → t < length s.translations → i < d → j < d → entry p.real value left (t * d + i) j ≡ matrix_of p.real rs (real_image p n D) t i j
+  pub listed : (r i j : ℕ) → r < length s.parent.ops → i < d → j < d → entry p.real value right (r * d + i) j ≡ matrix_of p.real rs (real_image p n D) (r * length s.translations) i j
 
 -- matrices in a basis that multiply as the quotient
 pub record IsGiven {Z K : Type 0} (p : Parts Z K) (n : ℕ) (s : SupercellGroup) (D : ℕ → ℕ → ℕ → Z) (rs : List (ℕ × (ℕ → K))) (d : ℕ) (E : ℕ → ℕ → ℕ → K) : Type 0 where
@@ -84,7 +84,7 @@ module _ {A Z K : Type 0} (p : Parts Z K) (value : A → K) (n : ℕ) (s : Super
       let d : ℕ = length rs in
       let E : ℕ → ℕ → ℕ → K = factored_entry p.real value d (length s.translations) left right in
       let same : (q : ℕ) → q < order_of s → AreEqualBelow d (E q) (matrix_of p.real rs (real_image p n D) q) =
-      factors-same p n s h D rep one rs form kept (stacked p.real value left d) (stacked p.real value right d) (λ t lt i j li lj. a.left t i j lt li lj) (λ r lr i j li lj. a.right r i j lr li lj) in
+      factors-same p n s h D rep one rs form kept (stacked p.real value left d) (stacked p.real value right d) (λ t lt i j li lj. a.translations t i j lt li lj) (λ r lr i j li lj. a.listed r i j lr li lj) in
       record {
         matrices = same-in p n s h D rep one rs form kept E same;
         multiplies = same-multiply p n s h D rep one rs form kept E same;

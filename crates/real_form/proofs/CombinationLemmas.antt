@@ -1,4 +1,4 @@
-use Rattle.std.proofs.Common.{◌≡◌, ℕ, suc, zero, ◌+◌, ◌-◌, ◌<◌, ◌≤◌, refl, sym, ◌∙◌, ap, subst, arith, List, [], ◌∷◌, ◌++◌, length, map, append_assoc, append-nil, All}
+use Rattle.std.proofs.Common.{◌≡◌, ℕ, suc, zero, ◌+◌, ◌-◌, ◌<◌, ◌≤◌, refl, sym, ◌∙◌, ap, subst, arith, List, [], ◌∷◌, ◌++◌, map, append_assoc, append-nil}
 use Rattle.std.specs.Prelude.{slice_index_or}
 use Rattle.std.specs.List.{flat_map, range_with_len}
 use Rattle.std.proofs.lemmas.List.FromFn.{map-range_with_len_more, get_or-range_with_len}
@@ -13,7 +13,7 @@ use Rattle.itertools.specs.Odometer.{numbers, ways}
 use Rattle.itertools.specs.Pool.{ascending_low, ascending_high, ClonesAt, reads_tuple}
 use Rattle.real_form.specs.declared.candidate.Candidate.{Candidate}
 use Rattle.real_form.specs.declared.candidate.Candidate.TheVariants.{Place, Pair}
-use Rattle.real_form.specs.Candidates.{pairs_of, powers_of, candidates_of, IsPower, ArePowers}
+use Rattle.real_form.specs.Candidates.{pairs_of, powers_of, candidates_of, ArePowers}
 
 -- more of a list that goes on from a first part
 pub appended-next : {X : Type 0} (first more next old new tail : List X) → old ≡ first ++ more → new ≡ old ++ tail → next ≡ more ++ tail → new ≡ first ++ next

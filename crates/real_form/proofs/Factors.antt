@@ -4,8 +4,8 @@
 -- some_translation, some_rotation, translation_of_order: there is a translation, and a rotation
 -- factored: element r T + t is translation t times listed operation r
 -- translation-below, block-below: a translation times an element of rotation r is one of rotation r
-use Rattle.std.proofs.Common.{◌≡◌, ℕ, ◌+◌, ◌*◌, ◌/◌, ◌%◌, ◌<◌, ◌≤◌, sym, ◌∙◌, ap, arith, length, ℤ}
-use Rattle.std.proofs.lemmas.Nat.{div-mul-add, mod-mul-add, div_below}
+use Rattle.std.proofs.Common.{◌≡◌, ℕ, ◌+◌, ◌*◌, ◌/◌, ◌<◌, ◌≤◌, sym, ◌∙◌, ap, arith, length, ℤ}
+use Rattle.std.proofs.lemmas.Nat.{div-mul-add, div_below}
 use Rattle.std.proofs.Math.Nat.{mul-le-mul_left, mul_comm}
 use Rattle.algebra.specs.Whole.{whole}
 use Rattle.algebra.specs.WholeLaws.{whole_ring}

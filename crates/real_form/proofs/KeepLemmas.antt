@@ -20,7 +20,7 @@ use Rattle.real_form.specs.KeptBasis.{IsKeptBasis, AreFactorsOf}
 use Rattle.real_form.specs.Products.{IsWideRow}
 use Rattle.real_form.specs.RealBasis.{IsWideFactors, IsWideMatrices}
 use Rattle.real_form.specs.Wide.{IsWideImage, IsWideLifted}
-use Rattle.real_form.proofs.AssemblyLemmas.{length-exact, AreFactors, IsGiven, factors-give, stacked-is}
+use Rattle.real_form.proofs.AssemblyLemmas.{length-exact, IsGiven, factors-give, stacked-is}
 use Rattle.real_form.proofs.FormLaws.{matrices-in}
 use Rattle.real_form.proofs.NarrowLemmas.{narrow-at, wide-row}
 
@@ -40,7 +40,7 @@ module _ (s : SupercellGroup) (h : IsQuotient s) (n : ℕ) (D : ℕ → ℕ → 
     here =
         let e : length rs ≡ length rows = length-exact k24_laws exact24 rows in
         let given : IsGiven z24_parts n s D rs (length rows) (entry_in s (length rows) left right) =
-        factors-give z24_parts exact24 n s h D rep one rs basis.form basis.kept left right (length rows) e (record { left = factors.left; right = factors.right }) in
+        factors-give z24_parts exact24 n s h D rep one rs basis.form basis.kept left right (length rows) e (record { translations = factors.translations; listed = factors.listed }) in
         record {
           held = record {
             stacked = factors.stacked;
@@ -57,7 +57,7 @@ module _ (s : SupercellGroup) (h : IsQuotient s) (n : ℕ) (D : ℕ → ℕ → 
   wide-products w =
       let A : ℕ → ℕ → ℕ → Exact24 = matrix_of k24_laws rs (real_image z24_parts n D) in
       let e : length rs ≡ length rows = length-exact k24_laws exact24 rows in
-      let row = wide-row k24 exact24 left right (length rows) (length s.translations) (length s.parent.ops) A (λ r. A (r * length s.translations)) left.rows left.cols factors.stacked.left_rows factors.stacked.left_cols factors.left factors.right w in (
+      let row = wide-row k24 exact24 left right (length rows) (length s.translations) (length s.parent.ops) A (λ r. A (r * length s.translations)) left.rows left.cols factors.stacked.left_rows factors.stacked.left_cols factors.translations factors.listed w in (
         A,
         matrices-in z24_parts n s h D rep one rs basis.form basis.kept,
         inr (subst (λ (d : ℕ). (a b i : ℕ) × (a < length s.translations) × (b < length s.parent.ops) × (i < d) × IsWideRow k24 d (A a i) (A (b * length s.translations))) (sym e) row),
@@ -98,10 +98,10 @@ factors-of s n D rows pivots vs left right count listed ep ev et er lr lc le rr 
         right_rows = rr ∙ (λ z. er z * e z);
         right_cols = rc ∙ e;
       };
-      left = λ t i j lt li lj.
+      translations = λ t i j lt li lj.
           stacked-is z24_parts exact24 n D rows pivots vs d refl ep ev count 1 (entry k24_laws exact24 left) le t i j (subst (λ (c : ℕ). t < c) (sym et) lt) li lj
           ∙ ap (λ q. M q i j) (mul-one t);
-      right = λ r i j lt li lj.
+      listed = λ r i j lt li lj.
           stacked-is z24_parts exact24 n D rows pivots vs d refl ep ev listed count (entry k24_laws exact24 right) re r i j (subst (λ (c : ℕ). r < c) (sym er) lt) li lj
           ∙ ap (λ c. M (r * c) i j) et;
     }

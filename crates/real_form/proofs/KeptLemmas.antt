@@ -1,4 +1,4 @@
-use Rattle.std.proofs.Common.{◌≡◌, ℕ, ◌+◌, sym, ◌∙◌, subst, List, length}
+use Rattle.std.proofs.Common.{◌≡◌, ◌≤◌, ℕ, ◌+◌, ◌*◌, sym, ◌∙◌, ap, subst, arith, List, length}
 use Rattle.cyclo24.specs.declared.k24.K24.{K24}
 use Rattle.cyclo24.specs.K24.{exact24}
 use Rattle.cyclo24.specs.ExactK24.{Exact24, k24_laws}
@@ -9,10 +9,11 @@ use Rattle.lin_alg.specs.Rows.{exact_rows, HaveWidth}
 use Rattle.super_group.specs.Quotient.{SupercellGroup, IsQuotient, order_of, quotient_group}
 use Rattle.induce.specs.declared.kinds.Kind.{Kind}
 use Rattle.induce.specs.declared.kinds.Kind.TheVariants.{Real, Complex, Pseudoreal}
+use Rattle.induce.specs.Kinds.{real_dimension}
 use Rattle.real_form.specs.Bases.{unit_rows}
 use Rattle.real_form.specs.Complexes.{z24_parts}
 use Rattle.real_form.specs.KeptBasis.{IsKept, IsKeptBasis}
-use Rattle.real_form.specs.Orbits.{FirstOf, NoneOf}
+use Rattle.real_form.specs.Orbits.{FirstOf}
 use Rattle.real_form.specs.RealBasis.{IsBasisOf, FitsNot, IsRealBasis}
 use Rattle.real_form.proofs.AnswerLemmas.{first-some}
 use Rattle.real_form.proofs.AssemblyLemmas.{length-exact}
@@ -53,3 +54,14 @@ module _ (kind : Kind) (n m : ℕ) (D : ℕ → ℕ → ℕ → ExactZ24) (cs : 
 
   pub basis-pseudoreal : kind ≡ Pseudoreal → rs ≡ unit_rows k24_laws 0 (n + n) → IsRealBasis kind n m D cs rs
   basis-pseudoreal e h = subst (λ (k : Kind). IsRealBasis k n m D cs rs) (sym e) h
+
+-- at most 24 rows, by kind
+module _ (kind : Kind) (n r : ℕ) (e : r ≡ real_dimension kind n) (few : r ≤ 24) where
+  pub few-real : kind ≡ Real → n ≤ 24
+  few-real k = let same : r ≡ n = e ∙ ap (λ x. real_dimension x n) k in omega (arith, same, few)
+
+  pub few-complex : kind ≡ Complex → n + n ≤ 24
+  few-complex k = let same : r ≡ 2 * n = e ∙ ap (λ x. real_dimension x n) k in omega (arith, same, few)
+
+  pub few-pseudoreal : kind ≡ Pseudoreal → n + n ≤ 24
+  few-pseudoreal k = let same : r ≡ 2 * n = e ∙ ap (λ x. real_dimension x n) k in omega (arith, same, few)

@@ -21,3 +21,4 @@ mod PushLemmas
 mod NarrowLemmas
 mod AnswerLemmas
 mod AssemblyLemmas
+mod FactorLemmas

@@ -30,7 +30,7 @@ pub record IsKeptBasis (m n : ℕ) (D : ℕ → ℕ → ℕ → ExactZ24) (rows 
 -- the matrices of the translations, and those of the listed operations, in a basis, one below the other
 pub record AreFactorsOf (s : SupercellGroup) (n : ℕ) (D : ℕ → ℕ → ℕ → ExactZ24) (rows : List (ℕ × List K24)) (left right : MatrixView K24) : Type 0 where
   pub stacked : IsStacked s (length rows) left right
-  pub left : (t i j : ℕ) → t < length s.translations → i < length rows → j < length rows
+  pub translations : (t i j : ℕ) → t < length s.translations → i < length rows → j < length rows
       → entry k24_laws exact24 left (t * length rows + i) j ≡ matrix_of k24_laws (exact_rows k24_laws exact24 rows) (real_image z24_parts n D) t i j
-  pub right : (r i j : ℕ) → r < length s.parent.ops → i < length rows → j < length rows
+  pub listed : (r i j : ℕ) → r < length s.parent.ops → i < length rows → j < length rows
       → entry k24_laws exact24 right (r * length rows + i) j ≡ matrix_of k24_laws (exact_rows k24_laws exact24 rows) (real_image z24_parts n D) (r * length s.translations) i j

@@ -70,12 +70,12 @@ impl RealForm {
     ) -> Result<RealForm, FormError>
         requires of { IsInducedOf quotient.now induced.now }
         requires given { ForSome given (λ w. length w.now ≡ (dimension_in induced.now.tables)) }
-        ensures basis { IfOk result (λ form. IsRealBasis induced.now.kind (dimension_in induced.now.tables) (order_of quotient.now) (matrix_in quotient.now induced.now.tables) (tried (dimension_in induced.now.tables) (option_copied given)) (exact_rows k24_laws exact24 (basis_of form))) }
+        ensures basis { IfOk result (λ form. IsRealBasis induced.now.kind (dimension_in induced.now.tables) (order_of quotient.now) (matrix_in quotient.now induced.now.tables) (tried (dimension_in induced.now.tables) (option_copied given.entry)) (exact_rows k24_laws exact24 (basis_of form))) }
         ensures matrices { IfOk result (λ form. AreMatricesIn z24_parts (dimension_in induced.now.tables) (matrix_in quotient.now induced.now.tables) (order_of quotient.now) (exact_rows k24_laws exact24 (basis_of form)) (entry_of k24_laws (action_of form))) }
         ensures quotient { IfOk result (λ form. form.quotient ≡ quotient.now) }
         ensures few { IfOk result (λ form. (action_of form).dim ≤ 24) }
-        ensures none { (result ≡ Err form_error.NoRealBasis) → (induced.now.kind ≡ kind_of.Real) × NoneOf (FitsNot (dimension_in induced.now.tables) (order_of quotient.now) (matrix_in quotient.now induced.now.tables)) (tried (dimension_in induced.now.tables) (option_copied given)) }
-        ensures wide { (f : ℕ) → (result ≡ Err (form_error.Wide f)) → ((f ≡ 1) × (induced.now.kind ≡ kind_of.Real) × IsWideSpans (dimension_in induced.now.tables) (order_of quotient.now) (matrix_in quotient.now induced.now.tables) (tried (dimension_in induced.now.tables) (option_copied given))) ⊎ ((f ≡ 2) × IsWideForm induced.now.kind (dimension_in induced.now.tables) (length quotient.now.translations) (length quotient.now.parent.ops) (matrix_in quotient.now induced.now.tables) (tried (dimension_in induced.now.tables) (option_copied given))) }
+        ensures none { (result ≡ Err form_error.NoRealBasis) → (induced.now.kind ≡ kind_of.Real) × NoneOf (FitsNot (dimension_in induced.now.tables) (order_of quotient.now) (matrix_in quotient.now induced.now.tables)) (tried (dimension_in induced.now.tables) (option_copied given.entry)) }
+        ensures wide { (f : ℕ) → (result ≡ Err (form_error.Wide f)) → ((f ≡ 1) × (induced.now.kind ≡ kind_of.Real) × IsWideSpans (dimension_in induced.now.tables) (order_of quotient.now) (matrix_in quotient.now induced.now.tables) (tried (dimension_in induced.now.tables) (option_copied given.entry))) ⊎ ((f ≡ 2) × IsWideForm induced.now.kind (dimension_in induced.now.tables) (length quotient.now.translations) (length quotient.now.parent.ops) (matrix_in quotient.now induced.now.tables) (tried (dimension_in induced.now.tables) (option_copied given.entry))) }
     {
         let lines = match basis_lines(alloc, quotient, induced, given) {
             Ok(lines) => lines,

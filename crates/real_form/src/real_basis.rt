@@ -35,11 +35,11 @@ pub(crate) fn basis_lines(
 ) -> Result<Vec<(usize, Vec<K24>)>, FormError>
     requires of { IsInducedOf quotient.now induced.now }
     requires given { ForSome given (λ w. length w.now ≡ (dimension_in induced.now.tables)) }
-    ensures basis { IfOk result (λ lines. IsRealBasis induced.now.kind (dimension_in induced.now.tables) (order_of quotient.now) (matrix_in quotient.now induced.now.tables) (tried (dimension_in induced.now.tables) (option_copied given)) (exact_rows k24_laws exact24 (lines_of lines.items))) }
+    ensures basis { IfOk result (λ lines. IsRealBasis induced.now.kind (dimension_in induced.now.tables) (order_of quotient.now) (matrix_in quotient.now induced.now.tables) (tried (dimension_in induced.now.tables) (option_copied given.entry)) (exact_rows k24_laws exact24 (lines_of lines.items))) }
     ensures kept { IfOk result (λ lines. IsKeptBasis (order_of quotient.now) (dimension_in induced.now.tables) (matrix_in quotient.now induced.now.tables) (lines_of lines.items)) }
     ensures few { IfOk result (λ lines. length lines.items ≤ 24) }
-    ensures none { (result ≡ Err form_error.NoRealBasis) → (induced.now.kind ≡ kind_of.Real) × NoneOf (FitsNot (dimension_in induced.now.tables) (order_of quotient.now) (matrix_in quotient.now induced.now.tables)) (tried (dimension_in induced.now.tables) (option_copied given)) }
-    ensures wide { (f : ℕ) → (result ≡ Err (form_error.Wide f)) → (f ≡ 1) × (induced.now.kind ≡ kind_of.Real) × IsWideSpans (dimension_in induced.now.tables) (order_of quotient.now) (matrix_in quotient.now induced.now.tables) (tried (dimension_in induced.now.tables) (option_copied given)) }
+    ensures none { (result ≡ Err form_error.NoRealBasis) → (induced.now.kind ≡ kind_of.Real) × NoneOf (FitsNot (dimension_in induced.now.tables) (order_of quotient.now) (matrix_in quotient.now induced.now.tables)) (tried (dimension_in induced.now.tables) (option_copied given.entry)) }
+    ensures wide { (f : ℕ) → (result ≡ Err (form_error.Wide f)) → (f ≡ 1) × (induced.now.kind ≡ kind_of.Real) × IsWideSpans (dimension_in induced.now.tables) (order_of quotient.now) (matrix_in quotient.now induced.now.tables) (tried (dimension_in induced.now.tables) (option_copied given.entry)) }
 {
     let _dim = induced.real_dim();
     match induced.kind() {
@@ -58,11 +58,11 @@ fn spanned_lines(
 ) -> Result<Vec<(usize, Vec<K24>)>, FormError>
     requires of { IsInducedOf quotient.now induced.now }
     requires given { ForSome given (λ w. length w.now ≡ (dimension_in induced.now.tables)) }
-    ensures basis { IfOk result (λ lines. FirstOf (IsBasisOf (dimension_in induced.now.tables) (order_of quotient.now) (matrix_in quotient.now induced.now.tables) (exact_rows k24_laws exact24 (lines_of lines.items))) (FitsNot (dimension_in induced.now.tables) (order_of quotient.now) (matrix_in quotient.now induced.now.tables)) (tried (dimension_in induced.now.tables) (option_copied given))) }
+    ensures basis { IfOk result (λ lines. FirstOf (IsBasisOf (dimension_in induced.now.tables) (order_of quotient.now) (matrix_in quotient.now induced.now.tables) (exact_rows k24_laws exact24 (lines_of lines.items))) (FitsNot (dimension_in induced.now.tables) (order_of quotient.now) (matrix_in quotient.now induced.now.tables)) (tried (dimension_in induced.now.tables) (option_copied given.entry))) }
     ensures kept { IfOk result (λ lines. IsKeptBasis (order_of quotient.now) (dimension_in induced.now.tables) (matrix_in quotient.now induced.now.tables) (lines_of lines.items)) }
     ensures count { IfOk result (λ lines. length lines.items ≡ dimension_in induced.now.tables) }
-    ensures none { (result ≡ Err form_error.NoRealBasis) → NoneOf (FitsNot (dimension_in induced.now.tables) (order_of quotient.now) (matrix_in quotient.now induced.now.tables)) (tried (dimension_in induced.now.tables) (option_copied given)) }
-    ensures wide { (f : ℕ) → (result ≡ Err (form_error.Wide f)) → (f ≡ 1) × IsWideSpans (dimension_in induced.now.tables) (order_of quotient.now) (matrix_in quotient.now induced.now.tables) (tried (dimension_in induced.now.tables) (option_copied given)) }
+    ensures none { (result ≡ Err form_error.NoRealBasis) → NoneOf (FitsNot (dimension_in induced.now.tables) (order_of quotient.now) (matrix_in quotient.now induced.now.tables)) (tried (dimension_in induced.now.tables) (option_copied given.entry)) }
+    ensures wide { (f : ℕ) → (result ≡ Err (form_error.Wide f)) → (f ≡ 1) × IsWideSpans (dimension_in induced.now.tables) (order_of quotient.now) (matrix_in quotient.now induced.now.tables) (tried (dimension_in induced.now.tables) (option_copied given.entry)) }
 {
     let _order = quotient.order();
     let _dim = induced.dim();

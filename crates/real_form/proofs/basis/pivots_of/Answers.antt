@@ -1,4 +1,4 @@
-use Rattle.std.proofs.Common.{◌≡◌, ℕ, ◌<◌, ◌≤◌, ◌∙◌, refl, ap, arith, List, length, map}
+use Rattle.std.proofs.Common.{ℕ, ◌<◌, ◌≤◌, ◌∙◌, refl, ap, List, length, map}
 use Rattle.std.proofs.lemmas.List.{take_all, length-map}
 use Rattle.cyclo24.specs.declared.k24.K24.{K24}
 use Rattle.real_form.specs.Vectors.{lines_of}

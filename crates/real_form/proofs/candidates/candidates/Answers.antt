@@ -1,7 +1,7 @@
-use Rattle.std.proofs.Common.{◌≡◌, ◌∙◌, sym, ap, subst, map, ◌++◌}
+use Rattle.std.proofs.Common.{◌∙◌, sym, ap, subst, map, ◌++◌}
 use Rattle.std.specs.List.{range_with_len}
 use Rattle.real_form.specs.declared.candidate.Candidate.TheVariants.{Place}
-use Rattle.real_form.specs.Candidates.{candidates_of, ArePowers}
+use Rattle.real_form.specs.Candidates.{ArePowers}
 use Rattle.real_form.proofs.CombinationLemmas.{all-candidates, all-powers}
 use Rattle.real_form.proofs.candidates.candidates.Goals as goal
 

@@ -1,4 +1,4 @@
-use Rattle.std.proofs.Common.{◌≡◌, refl, subst, List, ◌∙◌, sym, ap, ℕ, length}
+use Rattle.std.proofs.Common.{◌≡◌, refl, subst, ◌∙◌, sym, ap, length}
 use Rattle.std.specs.List.{range_with_len}
 use Rattle.std.proofs.lemmas.List.FromFn.{length-range_with_len}
 use Rattle.itertools.specs.Pool.{combination_left}

@@ -2,7 +2,7 @@ use Rattle.std.proofs.Common.{◌<◌, ℕ, sym, ◌∙◌, subst, length}
 use Rattle.cyclo24.specs.Z24.{exact_z24}
 use Rattle.cyclo24.specs.ExactZ24.{z24, z24_laws}
 use Rattle.lin_alg.specs.Rows.{vector}
-use Rattle.induce.specs.Tables.{dimension_in, matrix_in}
+use Rattle.induce.specs.Tables.{matrix_in}
 use Rattle.real_form.proofs.VectorLemmas.{vector-at}
 use Rattle.real_form.proofs.TermLemmas.{term-exact, term-wide, term-zero}
 use Rattle.real_form.proofs.image.add_term.Goals as goal

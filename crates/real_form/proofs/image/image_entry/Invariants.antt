@@ -3,7 +3,7 @@ use Rattle.cyclo24.specs.Z24.{exact_z24}
 use Rattle.cyclo24.specs.ExactZ24.{z24_laws}
 use Rattle.cyclo24.specs.Sums.{total}
 use Rattle.lin_alg.specs.Rows.{vector}
-use Rattle.induce.specs.Tables.{dimension_in, matrix_in}
+use Rattle.induce.specs.Tables.{matrix_in}
 use Rattle.real_form.proofs.image.image_entry.Given as goal
 
 abbrev pub invariant-loop-j : goal.invariant-loop-j

@@ -3,7 +3,7 @@ use Rattle.cyclo24.specs.K24.{exact24}
 use Rattle.cyclo24.specs.Z24.{exact_z24}
 use Rattle.cyclo24.specs.ExactK24.{k24, k24_laws}
 use Rattle.cyclo24.specs.ExactZ24.{z24_laws, from_real, imaginary, is_wide_sum_z24}
-use Rattle.cyclo24.specs.Z24Roots.{power-6}
+use Rattle.cyclo24.specs.Z24RootsLaws.{power-6}
 use Rattle.lin_alg.specs.Rows.{vector}
 use Rattle.real_form.specs.Parts.{lifted}
 use Rattle.real_form.specs.Complexes.{z24_parts}

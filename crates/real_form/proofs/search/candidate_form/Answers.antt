@@ -1,5 +1,5 @@
-use Rattle.std.proofs.Common.{◌≡◌, ◌+◌, ◌∙◌, sym, ap, subst, List, map, IfOk, IfSome}
-use Rattle.std.specs.Prelude.{IfNone, Err}
+use Rattle.std.proofs.Common.{◌∙◌, sym, ap, subst, List, map, IfOk, IfSome}
+use Rattle.std.specs.Prelude.{IfNone}
 use Rattle.cyclo24.specs.K24.{exact24}
 use Rattle.cyclo24.specs.ExactK24.{k24_laws}
 use Rattle.lin_alg.specs.Rows.{exact_rows}

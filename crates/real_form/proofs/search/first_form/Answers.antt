@@ -1,20 +1,18 @@
-use Rattle.std.proofs.Common.{◌≡◌, ◌+◌, ℕ, ◌∙◌, ap, subst, length, get_or, true, IfSome}
+use Rattle.std.proofs.Common.{◌≡◌, ℕ, ◌∙◌, ap, subst, get_or, true, IfSome}
 use Rattle.std.specs.Prelude.{IfNone}
 use Rattle.cyclo24.specs.K24.{exact24}
 use Rattle.cyclo24.specs.Z24.{exact_z24}
-use Rattle.cyclo24.specs.ExactK24.{k24, k24_laws}
+use Rattle.cyclo24.specs.ExactK24.{k24_laws}
 use Rattle.cyclo24.specs.ExactZ24.{ExactZ24, z24_laws}
 use Rattle.lin_alg.specs.Rows.{vector, exact_rows}
 use Rattle.super_group.specs.Quotient.{order_of}
 use Rattle.induce.specs.Tables.{dimension_in, matrix_in}
-use Rattle.real_form.specs.Parts.{orbit}
 use Rattle.real_form.specs.Complexes.{z24_parts}
-use Rattle.real_form.specs.Orbits.{IsFormOf, Fits}
+use Rattle.real_form.specs.Orbits.{Fits}
 use Rattle.real_form.specs.RealBasis.{IsBasisOf, FitsNot}
 use Rattle.real_form.specs.Wide.{IsWideOrbit}
 use Rattle.real_form.specs.declared.candidate.Candidate.TheVariants.{Place}
 use Rattle.real_form.specs.Candidates.{candidate_vector}
-use Rattle.real_form.proofs.SpannedLemmas.{held-length}
 use Rattle.real_form.proofs.FirstLemmas.{first-at, none-next, none-all, power-at, at-any}
 use Rattle.real_form.proofs.search.first_form.Goals as goal
 
@@ -37,9 +35,8 @@ returns-in-Ok-Some-clause-some c =
     let ew : w ≡ candidate_vector n x = ap (vector z24_laws exact_z24) c.deref.ensures.value ∙ c.in_ok-row.ensures.exact ∙ ap (λ k. candidate_vector k x) c.dim.ensures.value in
     let form = c.in-Ok-Some.form in
     let rs = exact_rows k24_laws exact24 form.rows in
-    let found = subst (λ o. IfSome o (λ form. (form.whole ≡ true) × IsFormOf k24_laws (n + n) m (orbit z24_parts n D w) (exact_rows k24_laws exact24 form.rows) × (length form.rows ≡ n))) c.in-Ok-Some.field-0-is c.in-Ok-Some.ensures.some in
-    let basis : IsBasisOf n m D rs w = (found.1, held-length k24 exact24 (n + n) (orbit z24_parts n D w) n form found.2) in
-    (found.0, first-at (FitsNot n m D) (candidate_vector n) (IsBasisOf n m D rs) cs i x c.loop-candidate-test.true (at-any cs i (Place 0) x c.loop-candidate-test.true) c.loop-candidate.invariant (subst (λ (v : ℕ → ExactZ24). IsBasisOf n m D rs v) ew basis))
+    let found = subst (λ o. IfSome o (λ form. IsBasisOf n m D (exact_rows k24_laws exact24 form.rows) w)) c.in-Ok-Some.field-0-is c.in-Ok-Some.ensures.some in
+    first-at (FitsNot n m D) (candidate_vector n) (IsBasisOf n m D rs) cs i x c.loop-candidate-test.true (at-any cs i (Place 0) x c.loop-candidate-test.true) c.loop-candidate.invariant (subst (λ (v : ℕ → ExactZ24). IsBasisOf n m D rs v) ew found)
 
 pub returns-in-Err-clause-wide : goal.returns-in-Err-clause-wide
 returns-in-Err-clause-wide c e =

@@ -1,4 +1,4 @@
-use Rattle.std.proofs.Common.{◌≡◌, ◌+◌, sym, ap, subst, List, Option, Some, IfOk, IfSome}
+use Rattle.std.proofs.Common.{sym, ap, subst, List, Option, IfOk, IfSome}
 use Rattle.std.specs.Prelude.{IfNone}
 use Rattle.std.specs.Option.{option_copied}
 use Rattle.cyclo24.specs.declared.z24.Z24.{Z24}

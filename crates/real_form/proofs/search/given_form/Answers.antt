@@ -1,4 +1,3 @@
-use Rattle.std.proofs.Common.{◌+◌}
 use Rattle.cyclo24.specs.K24.{exact24}
 use Rattle.cyclo24.specs.Z24.{exact_z24}
 use Rattle.cyclo24.specs.ExactK24.{k24_laws}

@@ -1,4 +1,4 @@
-use Rattle.std.proofs.Common.{◌≡◌, ◌≤◌, ℕ, inl, inr, refl, sym, ap, subst, List, length}
+use Rattle.std.proofs.Common.{◌≡◌, ◌≤◌, ℕ, inl, inr, sym, ap, subst, List, length}
 use Rattle.std.specs.Prelude.{Err}
 use Rattle.std.specs.Option.{option_copied}
 use Rattle.real_form.specs.declared.errors.FormError.TheVariants.{NoRealBasis, Wide}

@@ -1,8 +1,7 @@
-use Rattle.std.proofs.Common.{◌≡◌, ◌<◌, ◌+◌, ◌*◌, ℕ, refl, sym, ◌∙◌, ap, subst, List, length}
+use Rattle.std.proofs.Common.{◌≡◌, ◌<◌, ◌+◌, ◌*◌, ℕ, refl, sym, ◌∙◌, ap, subst, length}
 use Rattle.std.proofs.lemmas.List.{length-map}
 use Rattle.std.specs.Prelude.{Err}
 use Rattle.lin_alg.specs.declared.errors.LinError.TheVariants.{Wide}
-use Rattle.cyclo24.specs.declared.k24.K24.{K24}
 use Rattle.cyclo24.specs.K24.{exact24}
 use Rattle.cyclo24.specs.ExactK24.{k24, k24_laws}
 use Rattle.cyclo24.specs.ExactZ24.{z24_laws}
