@@ -1,6 +1,10 @@
-use Rattle.std.proofs.Common.{List, [], ◌∷◌, Result, Option, IfOk, IfSome, Some, None, inl, inr}
+use Rattle.std.proofs.Common.{◌≡◌, List, [], ◌∷◌, Result, Option, IfOk, IfSome, Some, None, inl, inr}
 use Rattle.std.specs.Prelude.{Ok, Err, IfNone}
 use Rattle.real_form.specs.Orbits.{FirstOf, NoneOf}
+
+-- an answer has one error
+pub error-is : {A E : Type 0} (x y : E) (r : Result A E) → r ≡ Err x → r ≡ Err y → x ≡ y
+error-is x y r p q = cc
 
 -- what follows from the answer of a call
 pub some-map : {A E : Type 0} (r : Result (Option A) E) (P Q : A → Type 0) → ((x : A) → P x → Q x) → IfOk r (λ a. IfSome a P) → IfOk r (λ a. IfSome a Q)

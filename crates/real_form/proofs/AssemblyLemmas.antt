@@ -40,7 +40,7 @@ module _ {A Z K : Type 0} (p : Parts Z K) (value : A → K) (n : ℕ) (D : ℕ �
       (t i j : ℕ) → t < count → i < d → j < d → E (t * d + i) j ≡ matrix_of p.real (exact_rows p.real value rows) (real_image p n D) (t * step) i j
   stacked-is d same ep ev count step E h t i j lt li lj =
       let k : ℕ = t * d + i in
-      let e : length pivots ≡ d = ap length ep ∙ length-map {A = ℕ × List A} {B = ℕ} (λ r. r.0) rows ∙ sym same in
+      let e : length pivots ≡ d = ap length ep ∙ length-map {A = ℕ × List A} {B = ℕ} rows (λ r. r.0) ∙ sym same in
       let lk : k < count * length pivots = subst (λ (x : ℕ). k < count * x) (sym e) (row_below count d t i lt li) in
       let lm : j < length pivots = subst (λ (x : ℕ). j < x) (sym e) lj in
       let quotient : k / length pivots ≡ t = ap (λ x. k / x) e ∙ div-mul-add t d i li in

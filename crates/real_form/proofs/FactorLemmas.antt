@@ -21,7 +21,7 @@ use Rattle.real_form.proofs.KeepLemmas.{factors-of}
 -- the pivots of rows
 module _ {A : Type 0} (rows : List (ℕ × List A)) (pivots : List ℕ) (ep : pivots ≡ map {A = ℕ × List A} {B = ℕ} (λ r. r.0) rows) where
   pub pivots-length : length pivots ≡ length rows
-  pivots-length = ap length ep ∙ length-map {A = ℕ × List A} {B = ℕ} (λ r. r.0) rows
+  pivots-length = ap length ep ∙ length-map {A = ℕ × List A} {B = ℕ} rows (λ r. r.0)
 
   pub pivots-below : (w : ℕ) → HaveWidth w rows → (i : ℕ) → i < length pivots → get_or pivots i 0 < w
   pivots-below w h i l =

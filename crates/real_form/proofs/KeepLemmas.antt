@@ -73,10 +73,10 @@ wide-factors s h n D rep one rows basis w =
 
 -- the matrices that a real form shows
 pub shown : (n m : ℕ) (D : ℕ → ℕ → ℕ → ExactZ24) (rs rs' : List (ℕ × (ℕ → Exact24))) (E E' : ℕ → ℕ → ℕ → Exact24) → rs ≡ rs' → E ≡ E' → AreMatricesIn z24_parts n D m rs E → AreMatricesIn z24_parts n D m rs' (λ q i j. lift k24_laws (E' q i j).0)
-shown n m D rs rs' E E' er ee h =
+shown n m D xs ys E E' er ee h =
     let lifted : E' ≡ (λ q i j. lift k24_laws (E' q i j).0) = funext (λ q. funext (λ i. funext (λ j. sym (lift-list k24 (E' q i j))))) in
-    subst (λ (F : ℕ → ℕ → ℕ → Exact24). AreMatricesIn z24_parts n D m rs' F) lifted
-    (subst (λ (F : ℕ → ℕ → ℕ → Exact24). AreMatricesIn z24_parts n D m rs' F) ee (subst (λ (xs : List (ℕ × (ℕ → Exact24))). AreMatricesIn z24_parts n D m xs E) er h))
+    subst (λ (F : ℕ → ℕ → ℕ → Exact24). AreMatricesIn z24_parts n D m ys F) lifted
+    (subst (λ (F : ℕ → ℕ → ℕ → Exact24). AreMatricesIn z24_parts n D m ys F) ee (subst (λ (zs : List (ℕ × (ℕ → Exact24))). AreMatricesIn z24_parts n D m zs E) er h))
 
 -- the kept matrices, from those that are formed
 pub factors-of : (s : SupercellGroup) (n : ℕ) (D : ℕ → ℕ → ℕ → ExactZ24) (rows : List (ℕ × List K24)) (pivots : List ℕ) (vs : ℕ → ℕ → ExactZ24) (left right : MatrixView K24) (count listed : ℕ) →
@@ -90,7 +90,7 @@ pub factors-of : (s : SupercellGroup) (n : ℕ) (D : ℕ → ℕ → ℕ → Exa
 factors-of s n D rows pivots vs left right count listed ep ev et er lr lc le rr rc re =
     let d : ℕ = length rows in
     let M : ℕ → ℕ → ℕ → Exact24 = matrix_of k24_laws (exact_rows k24_laws exact24 rows) (real_image z24_parts n D) in
-    let e : length pivots ≡ d = ap length ep ∙ length-map {A = ℕ × List K24} {B = ℕ} (λ r. r.0) rows in
+    let e : length pivots ≡ d = ap length ep ∙ length-map {A = ℕ × List K24} {B = ℕ} rows (λ r. r.0) in
     record {
       stacked = record {
         left_rows = lr ∙ (λ z. et z * e z);

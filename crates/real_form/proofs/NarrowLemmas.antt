@@ -56,8 +56,10 @@ module _ {A : Type 0} (f : ExactField) (value : A → Value f) (left right : Mat
         la,
         lr,
         li,
-        j,
-        lj,
-        dot-same f d (entry f.laws value left p) (λ k. entry f.laws value right (r * d + k) j) (P a i) (λ k. Q r k j)
-            (λ k lk. ap (λ q. entry f.laws value left q k) (sym at) ∙ el a i k la li lk) (λ k lk. eq r k j lr lk lj) dot,
+        (
+          j,
+          lj,
+          dot-same f d (entry f.laws value left p) (λ k. entry f.laws value right (r * d + k) j) (P a i) (λ k. Q r k j)
+              (λ k lk. ap (λ q. entry f.laws value left q k) (sym at) ∙ el a i k la li lk) (λ k lk. eq r k j lr lk lj) dot,
+        ),
       )

@@ -1,4 +1,4 @@
-use Rattle.std.proofs.Common.{◌≡◌, ℕ, suc, ◌+◌, ◌<◌, ◌≤◌, true, refl, sym, ◌∙◌, ap, subst, arith, add-one, List, [], ◌∷◌, length}
+use Rattle.std.proofs.Common.{◌≡◌, ℕ, suc, ◌+◌, ◌<◌, ◌≤◌, true, refl, sym, ◌∙◌, ap, subst, arith, add-one, List, [], ◌∷◌, ◌++◌, length, take, drop, length-take, length-append, length-drop}
 use Rattle.cyclo24.specs.FieldOn.{FieldOn}
 use Rattle.cyclo24.specs.ExactField.{ExactField, Value}
 use Rattle.lin_alg.specs.Spans.{row_vectors, less, IsInSpan, AreSame}
@@ -17,6 +17,17 @@ same-more : {K : Type 0} (f : FieldOn K) (rs ss : List (ℕ → K)) (x : ℕ →
 same-more f rs ss x e v = (λ h. (h.0, (e (less f v h.0 x)).0 h.1), λ h. (h.0, (e (less f v h.0 x)).1 h.1))
 
 module _ {A : Type 0} (f : ExactField) (value : A → Value f) (w : ℕ) (a : ℕ → ℕ → Value f) where
+  -- the empty form
+  pub held-start : (form : EchelonView A) → form.width ≡ w → form.whole ≡ true → form.rows ≡ [] → IsEchelon f.laws value form → HoldsSpan f.laws value w a 0 form
+  held-start form ew eh er shape = record {
+    width = ew;
+    whole = eh;
+    shape = shape;
+    span =
+        let none : AreSame (IsInSpan f.laws []) (IsInSpan f.laws []) = λ v. (λ h. h, λ h. h) in
+        subst (λ (rs : List (ℕ × List A)). AreSame (IsInSpan f.laws (row_vectors (exact_rows f.laws value rs))) (IsInSpan f.laws (plain_rows a 0))) (sym er) none;
+  }
+
   pub held-next : (q : ℕ) (old new : EchelonView A) (x : ℕ → Value f) → HoldsSpan f.laws value w a q old → x ≡ a q → new.width ≡ old.width → new.whole ≡ true → IsEchelon f.laws value new →
       AreSame (IsSpanned f.laws value new) (IsInSpan f.laws (x ∷ row_vectors (exact_rows f.laws value old.rows))) → HoldsSpan f.laws value w a (q + 1) new
   held-next q old new x h e ew eh form span = record {
@@ -69,3 +80,7 @@ module _ {A : Type 0} (f : ExactField) (value : A → Value f) (w : ℕ) (a : �
   held-skip k m form h l members =
       let both = span-skip f.laws a k m l members in
       record { width = h.width; whole = h.whole; shape = h.shape; span = λ v. (λ t. (both v).0 ((h.span v).0 t), λ t. (h.span v).1 ((both v).1 t)) }
+
+-- a slice of a whole list that was written
+pub written-length : {A : Type 0} (items new : List A) (len m : ℕ) → length new ≡ length items → len ≡ length items → length items ≡ m → length (take len (new ++ drop (length new) items)) ≡ m
+written-length {A} items new len m e l k = rw (length-take, length-append {A = A}, length-drop) (omega (arith, e, l, k))

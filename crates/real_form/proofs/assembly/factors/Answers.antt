@@ -10,6 +10,7 @@ use Rattle.induce.specs.Tables.{dimension_in, matrix_in}
 use Rattle.real_form.specs.Bases.{row_at}
 use Rattle.real_form.specs.Vectors.{lines_of, vector_at, AreLong}
 use Rattle.real_form.specs.Wide.{IsWideLifted}
+use Rattle.real_form.proofs.AnswerLemmas.{error-is}
 use Rattle.real_form.proofs.FactorLemmas.{pivots-length, pivots-below, left-elements, left-small, right-elements, right-small, vectors-are, stacked-moved, factors-by}
 use Rattle.real_form.proofs.KeepLemmas.{images-wide, rows-wide}
 use Rattle.real_form.proofs.assembly.factors.Goals as goal
@@ -18,10 +19,10 @@ pub lifted_rows-requires : goal.lifted_rows-requires
 lifted_rows-requires c = subst (λ (n : ℕ). HaveWidth (n + n) (lines_of c.args.lines.now)) (sym c.dim.ensures.value) c.requires.basis.width
 
 pub returns-in-Err-clause-wide : goal.returns-in-Err-clause-wide
-returns-in-Err-clause-wide c _ =
+returns-in-Err-clause-wide c e =
     let s = c.args.quotient.now in
     let rows = lines_of c.args.lines.now in
-    let same : c.in-Err.error ≡ Wide = cc in
+    let same : c.in-Err.error ≡ Wide = error-is c.in-Err.error Wide _ refl e in
     let long : length c.args.lines.now ≡ length rows = rw length-map refl in
     rows-wide (dimension_in c.args.induced.now.tables) (order_of s) (length c.args.lines.now) (matrix_in s c.args.induced.now.tables) rows long
     (subst (λ (n : ℕ). (k : ℕ) × (k < length c.args.lines.now) × IsWideLifted n (row_at k24_laws (exact_rows k24_laws exact24 rows) k)) c.dim.ensures.value (c.in-Err.ensures.wide (ap Err same)))
@@ -56,11 +57,11 @@ stacked-requires-clause-small c =
     left-small c.args.quotient.now c.order-order.ensures.quotient (length c.translations-count.result.now) (ap length c.translations-count.ensures) c.order-order.result c.order-order.ensures.value c.order-order.ensures.few
 
 pub returns-in-Err-stacked-clause-wide : goal.returns-in-Err-stacked-clause-wide
-returns-in-Err-stacked-clause-wide c _ =
+returns-in-Err-stacked-clause-wide c e =
     let s = c.args.quotient.now in
     let n = dimension_in c.args.induced.now.tables in
     let rows = lines_of c.args.lines.now in
-    let same : c.in-Err-stacked.error ≡ Wide = cc in
+    let same : c.in-Err-stacked.error ≡ Wide = error-is c.in-Err-stacked.error Wide _ refl e in
     let long : length c.args.lines.now ≡ length rows = rw length-map refl in
     images-wide n (order_of s) (length c.deref-2.result.now) (matrix_in s c.args.induced.now.tables) rows (vector_at c.deref.result.now)
     (pivots-length rows c.deref-2.result.now (c.deref-2.ensures.value ∙ c.in_ok-pivots.ensures))
@@ -117,11 +118,11 @@ returns-in-Ok-stacked-2-clause-factors c =
     (stacked-moved n D pivots c.deref-4.result.now c.deref-3.result.now vs c.len-listed.result count right c.deref-4.ensures.value c.deref-3.ensures.value (record { rows = two.rows; cols = two.cols; entries = two.entries }))
 
 pub returns-clause-wide : goal.returns-clause-wide
-returns-clause-wide c _ =
+returns-clause-wide c e =
     let s = c.args.quotient.now in
     let n = dimension_in c.args.induced.now.tables in
     let rows = lines_of c.args.lines.now in
-    let same : c.in-Err-stacked-2.error ≡ Wide = cc in
+    let same : c.in-Err-stacked-2.error ≡ Wide = error-is c.in-Err-stacked-2.error Wide _ refl e in
     let long : length c.args.lines.now ≡ length rows = rw length-map refl in
     images-wide n (order_of s) (length c.deref-4.result.now) (matrix_in s c.args.induced.now.tables) rows (vector_at c.deref-3.result.now)
     (pivots-length rows c.deref-4.result.now (c.deref-4.ensures.value ∙ c.in_ok-pivots.ensures))

@@ -53,3 +53,6 @@ loop-m-preserved c =
           (λ k lk. c.in-Ok.ensures.column k (subst (λ (x : ℕ). k < x) (sym c.loop-m.invariant.0) lk)
           ∙ ap (λ v. orbit z24_parts n D v ((k / d) * c.args.step) (get_or c.args.pivots.now (k % d) 0)) at) m lm k lk,
     )
+
+pub returns-clause-entries : goal.returns-clause-entries
+returns-clause-entries c k m lk lm = let past = c.loop-m-test.false in c.loop-m.invariant.2 k m lk (omega (arith, lm, past))

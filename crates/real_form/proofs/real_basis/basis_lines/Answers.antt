@@ -50,9 +50,9 @@ returns-in-Pseudoreal-clause-basis c =
     let D = matrix_in c.args.quotient.now c.args.induced.now.tables in
     let cs = tried n (option_copied c.args.given) in
     let kind = sym c.kind.ensures ∙ c.in-Pseudoreal.is in
-    ok-map c.doubled_lines-2.result (λ lines. exact_rows k24_laws exact24 (lines_of lines.items) ≡ unit_rows k24_laws 0 (n + n))
+    ok-map c.doubled_lines-in-Pseudoreal.result (λ lines. exact_rows k24_laws exact24 (lines_of lines.items) ≡ unit_rows k24_laws 0 (n + n))
     (λ lines. IsRealBasis c.args.induced.now.kind n m D cs (exact_rows k24_laws exact24 (lines_of lines.items)))
-    (λ lines h. basis-pseudoreal c.args.induced.now.kind n m D cs (exact_rows k24_laws exact24 (lines_of lines.items)) kind h) c.doubled_lines-2.ensures.rows
+    (λ lines h. basis-pseudoreal c.args.induced.now.kind n m D cs (exact_rows k24_laws exact24 (lines_of lines.items)) kind h) c.doubled_lines-in-Pseudoreal.ensures.rows
 
 pub returns-in-Real-clause-kept : goal.returns-in-Real-clause-kept
 returns-in-Real-clause-kept c = c.spanned_lines.ensures.kept
@@ -61,7 +61,7 @@ pub returns-in-Complex-clause-kept : goal.returns-in-Complex-clause-kept
 returns-in-Complex-clause-kept c = c.doubled_lines.ensures.kept
 
 pub returns-in-Pseudoreal-clause-kept : goal.returns-in-Pseudoreal-clause-kept
-returns-in-Pseudoreal-clause-kept c = c.doubled_lines-2.ensures.kept
+returns-in-Pseudoreal-clause-kept c = c.doubled_lines-in-Pseudoreal.ensures.kept
 
 pub returns-in-Real-clause-few : goal.returns-in-Real-clause-few
 returns-in-Real-clause-few c =
@@ -79,7 +79,7 @@ pub returns-in-Pseudoreal-clause-few : goal.returns-in-Pseudoreal-clause-few
 returns-in-Pseudoreal-clause-few c =
     let n = dimension_in c.args.induced.now.tables in
     let few : n + n ≤ 24 = few-pseudoreal c.args.induced.now.kind n c.real_dim-dim.result c.real_dim-dim.ensures.kind c.real_dim-dim.ensures.few (sym c.kind.ensures ∙ c.in-Pseudoreal.is) in
-    ok-map c.doubled_lines-2.result (λ lines. length lines.items ≡ n + n) (λ lines. length lines.items ≤ 24) (λ lines h. subst (λ (k : ℕ). k ≤ 24) (sym h) few) c.doubled_lines-2.ensures.count
+    ok-map c.doubled_lines-in-Pseudoreal.result (λ lines. length lines.items ≡ n + n) (λ lines. length lines.items ≤ 24) (λ lines h. subst (λ (k : ℕ). k ≤ 24) (sym h) few) c.doubled_lines-in-Pseudoreal.ensures.count
 
 pub returns-in-Real-clause-none : goal.returns-in-Real-clause-none
 returns-in-Real-clause-none c e = (sym c.kind.ensures ∙ c.in-Real.is, c.spanned_lines.ensures.none e)
@@ -88,7 +88,7 @@ pub returns-in-Complex-clause-none : goal.returns-in-Complex-clause-none
 returns-in-Complex-clause-none c e = absurd (real-basis-memory (c.doubled_lines.ensures.memory NoRealBasis e))
 
 pub returns-in-Pseudoreal-clause-none : goal.returns-in-Pseudoreal-clause-none
-returns-in-Pseudoreal-clause-none c e = absurd (real-basis-memory (c.doubled_lines-2.ensures.memory NoRealBasis e))
+returns-in-Pseudoreal-clause-none c e = absurd (real-basis-memory (c.doubled_lines-in-Pseudoreal.ensures.memory NoRealBasis e))
 
 pub returns-in-Real-clause-wide : goal.returns-in-Real-clause-wide
 returns-in-Real-clause-wide c f e = let w = c.spanned_lines.ensures.wide f e in (w.0, sym c.kind.ensures ∙ c.in-Real.is, w.1)
@@ -97,4 +97,4 @@ pub returns-in-Complex-clause-wide : goal.returns-in-Complex-clause-wide
 returns-in-Complex-clause-wide c f e = absurd (wide-memory f (c.doubled_lines.ensures.memory (Wide f) e))
 
 pub returns-in-Pseudoreal-clause-wide : goal.returns-in-Pseudoreal-clause-wide
-returns-in-Pseudoreal-clause-wide c f e = absurd (wide-memory f (c.doubled_lines-2.ensures.memory (Wide f) e))
+returns-in-Pseudoreal-clause-wide c f e = absurd (wide-memory f (c.doubled_lines-in-Pseudoreal.ensures.memory (Wide f) e))

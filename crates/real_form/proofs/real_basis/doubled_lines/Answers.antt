@@ -21,8 +21,8 @@ returns-in-Ok-clause-kept c =
     let D = matrix_in s c.args.induced.now.tables in
     let e = c.dim-n.ensures.value in
     let rows = lines_of c.in-Ok.lines.items in
-    let rep : IsRepresentation z24_laws (quotient_group s) n D = subst (λ (k : ℕ). IsRepresentation z24_laws (quotient_group s) k D) e (c.dim-n.ensures.multiplies s c.requires) in
-    let one : AreEqualBelow n (D 0) (unit_entry z24_laws) = subst (λ (k : ℕ). AreEqualBelow k (D 0) (unit_entry z24_laws)) e (c.dim-n.ensures.identity s c.requires) in
+    let rep : IsRepresentation z24_laws (quotient_group s) n D = subst (λ (k : ℕ). IsRepresentation z24_laws (quotient_group s) k D) e (c.dim-n.ensures.multiplies s c.requires.of) in
+    let one : AreEqualBelow n (D 0) (unit_entry z24_laws) = subst (λ (k : ℕ). AreEqualBelow k (D 0) (unit_entry z24_laws)) e (c.dim-n.ensures.identity s c.requires.of) in
     let width : HaveWidth (n + n) rows = subst (λ (k : ℕ). HaveWidth (k + k) rows) e c.in-Ok.ensures.width in
     let exact : exact_rows k24_laws exact24 rows ≡ unit_rows k24_laws 0 (n + n) = c.in-Ok.ensures.rows ∙ ap (λ k. unit_rows k24_laws 0 (k + k)) e in
     doubled-kept s c.order-order.ensures.quotient n D rep one rows width exact

@@ -17,18 +17,18 @@ use Rattle.real_form.specs.Vectors.{lines_of}
 use Rattle.real_form.proofs.KeptLemmas.{spanned-kept, spanned-count}
 use Rattle.real_form.proofs.real_basis.spanned_lines.Goals as goal
 
-pub returns-in-Ok-form_lines-clause-basis : goal.returns-in-Ok-form_lines-clause-basis
-returns-in-Ok-form_lines-clause-basis c =
+pub returns-in-Ok-clause-basis : goal.returns-in-Ok-clause-basis
+returns-in-Ok-clause-basis c =
     let n = dimension_in c.args.induced.now.tables in
     let m = order_of c.args.quotient.now in
     let D = matrix_in c.args.quotient.now c.args.induced.now.tables in
     let N = FitsNot n m D in
     let cs = tried n (option_copied c.args.given) in
     let some = subst (λ o. IfSome o (λ form. FirstOf (IsBasisOf n m D (exact_rows k24_laws exact24 form.rows)) N cs)) c.in-Ok-Some.field-0-is c.in-Ok-Some.ensures.some in
-    subst (λ (rows : List (ℕ × List K24)). FirstOf (IsBasisOf n m D (exact_rows k24_laws exact24 rows)) N cs) (sym c.in-Ok-form_lines.ensures) some
+    subst (λ (rows : List (ℕ × List K24)). FirstOf (IsBasisOf n m D (exact_rows k24_laws exact24 rows)) N cs) (sym c.in-Ok.ensures) some
 
-pub returns-in-Ok-form_lines-clause-kept : goal.returns-in-Ok-form_lines-clause-kept
-returns-in-Ok-form_lines-clause-kept c =
+pub returns-in-Ok-clause-kept : goal.returns-in-Ok-clause-kept
+returns-in-Ok-clause-kept c =
     let s = c.args.quotient.now in
     let n = dimension_in c.args.induced.now.tables in
     let m = order_of s in
@@ -36,27 +36,27 @@ returns-in-Ok-form_lines-clause-kept c =
     let N = FitsNot n m D in
     let cs = tried n (option_copied c.args.given) in
     let e = c.dim-dim.ensures.value in
-    let rows = lines_of c.in-Ok-form_lines.lines.items in
+    let rows = lines_of c.in-Ok.lines.items in
     let rep : IsRepresentation z24_laws (quotient_group s) n D = subst (λ (k : ℕ). IsRepresentation z24_laws (quotient_group s) k D) e (c.dim-dim.ensures.multiplies s c.requires.of) in
     let one : AreEqualBelow n (D 0) (unit_entry z24_laws) = subst (λ (k : ℕ). AreEqualBelow k (D 0) (unit_entry z24_laws)) e (c.dim-dim.ensures.identity s c.requires.of) in
     let some = subst (λ o. IfSome o (λ form. FirstOf (IsBasisOf n m D (exact_rows k24_laws exact24 form.rows)) N cs)) c.in-Ok-Some.field-0-is c.in-Ok-Some.ensures.some in
     let shape = subst (λ o. IfSome o (λ form. HaveWidth (n + n) form.rows)) c.in-Ok-Some.field-0-is c.in-Ok-Some.ensures.shape in
-    let width : HaveWidth (n + n) rows = subst (HaveWidth (n + n)) (sym c.in-Ok-form_lines.ensures) shape in
+    let width : HaveWidth (n + n) rows = subst (HaveWidth (n + n)) (sym c.in-Ok.ensures) shape in
     let first : FirstOf (IsBasisOf n m D (exact_rows k24_laws exact24 rows)) N cs =
-    subst (λ (rows : List (ℕ × List K24)). FirstOf (IsBasisOf n m D (exact_rows k24_laws exact24 rows)) N cs) (sym c.in-Ok-form_lines.ensures) some in
+    subst (λ (rows : List (ℕ × List K24)). FirstOf (IsBasisOf n m D (exact_rows k24_laws exact24 rows)) N cs) (sym c.in-Ok.ensures) some in
     spanned-kept s c.order-order.ensures.quotient n D rep one rows cs width first
 
-pub returns-in-Ok-form_lines-clause-count : goal.returns-in-Ok-form_lines-clause-count
-returns-in-Ok-form_lines-clause-count c =
+pub returns-in-Ok-clause-count : goal.returns-in-Ok-clause-count
+returns-in-Ok-clause-count c =
     let n = dimension_in c.args.induced.now.tables in
     let m = order_of c.args.quotient.now in
     let D = matrix_in c.args.quotient.now c.args.induced.now.tables in
     let N = FitsNot n m D in
     let cs = tried n (option_copied c.args.given) in
-    let rows = lines_of c.in-Ok-form_lines.lines.items in
+    let rows = lines_of c.in-Ok.lines.items in
     let some = subst (λ o. IfSome o (λ form. FirstOf (IsBasisOf n m D (exact_rows k24_laws exact24 form.rows)) N cs)) c.in-Ok-Some.field-0-is c.in-Ok-Some.ensures.some in
     let first : FirstOf (IsBasisOf n m D (exact_rows k24_laws exact24 rows)) N cs =
-    subst (λ (rows : List (ℕ × List K24)). FirstOf (IsBasisOf n m D (exact_rows k24_laws exact24 rows)) N cs) (sym c.in-Ok-form_lines.ensures) some in
+    subst (λ (rows : List (ℕ × List K24)). FirstOf (IsBasisOf n m D (exact_rows k24_laws exact24 rows)) N cs) (sym c.in-Ok.ensures) some in
     sym (rw length-map refl) ∙ spanned-count n m D rows cs first
 
 pub returns-in-Ok-None-clause-none : goal.returns-in-Ok-None-clause-none

@@ -1,4 +1,4 @@
-use Rattle.std.proofs.Common.{◌≡◌, ◌<◌, ◌≤◌, ◌+◌, ◌*◌, ℕ, sym, ap, subst, arith, length}
+use Rattle.std.proofs.Common.{◌≡◌, ◌<◌, ◌≤◌, ◌+◌, ◌*◌, ℕ, sym, ◌∙◌, ap, subst, arith, length, true, IfOk}
 use Rattle.cyclo24.specs.K24.{exact24}
 use Rattle.cyclo24.specs.Z24.{exact_z24}
 use Rattle.cyclo24.specs.ExactK24.{k24, k24_laws}
@@ -97,3 +97,13 @@ returns-in-Ok-No-clause-held c _ =
     let rep : IsRepresentation z24_laws (quotient_group s) n D = subst (λ (k : ℕ). IsRepresentation z24_laws (quotient_group s) k D) c.dim.ensures.value (c.dim.ensures.multiplies s c.requires.of) in
     held-skip k24 exact24 (n + n) a (c.args.r * T + 1) ((c.args.r + 1) * T) c.insert_image.new.form held l
     (block-skipped z24_parts n s c.order-order.ensures.quotient D rep w c.args.r c.requires.rotation member)
+
+pub returns-in-Ok-Yes-clause-held : goal.returns-in-Ok-Yes-clause-held
+returns-in-Ok-Yes-clause-held c =
+    let s = c.args.quotient.now in
+    let n = (dimension_in c.args.induced.now.tables) in
+    let a = orbit z24_parts n (matrix_in s c.args.induced.now.tables) (vector z24_laws exact_z24 c.args.w.now) in
+    let T = length s.translations in
+    let e : c.args.r * length c.translations-count.result.now + length c.translations-count.result.now ≡ (c.args.r + 1) * T =
+    ap (λ ts. c.args.r * length ts + length ts) c.translations-count.ensures ∙ sym (next_block c.args.r T) in
+    subst (λ (k : ℕ). IfOk c.insert_rest.result (λ few. few ≡ true → HoldsSpan k24_laws exact24 (n + n) a k c.insert_rest.new.form)) e c.insert_rest.ensures.held

@@ -32,4 +32,4 @@ pub returns-in-Err-insert-clause-wide : goal.returns-in-Err-insert-clause-wide
 returns-in-Err-insert-clause-wide c e =
     let n = (dimension_in c.args.induced.now.tables) in
     let a = orbit z24_parts n (matrix_in c.args.quotient.now c.args.induced.now.tables) (vector z24_laws exact_z24 c.args.w.now) in
-    inr (held-wide k24 exact24 (n + n) a c.args.q (order_of c.args.quotient.now) c.args.form.now (vector k24_laws exact24 c.fill_image.new.row) c.requires.held c.in-Ok.ensures.exact c.requires.element (c.in-Err-insert.ensures.wide e).1)
+    inr (held-wide k24 exact24 (n + n) a c.args.q (order_of c.args.quotient.now) c.args.form.now (vector k24_laws exact24 c.fill_image.new.row) c.requires.held c.in-Ok.ensures.exact c.requires.element (c.in-Err-insert.ensures.wide e))

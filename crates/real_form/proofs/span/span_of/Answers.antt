@@ -9,7 +9,7 @@ use Rattle.induce.specs.Tables.{dimension_in, matrix_in}
 use Rattle.real_form.specs.Parts.{orbit}
 use Rattle.real_form.specs.Complexes.{z24_parts}
 use Rattle.real_form.specs.Spanned.{HoldsSpan}
-use Rattle.real_form.proofs.SpannedLemmas.{held-other, held-form, held-length}
+use Rattle.real_form.proofs.SpannedLemmas.{held-start, held-other, held-form, held-length}
 use Rattle.real_form.proofs.span.span_of.Goals as goal
 
 pub returns-else-len-n-clause-none : goal.returns-else-len-n-clause-none
@@ -36,3 +36,22 @@ pub returns-then-len-n-clause-shape : goal.returns-then-len-n-clause-shape
 returns-then-len-n-clause-shape c =
     let h = c.loop-r.invariant.0 in
     subst (λ (k : ℕ). HaveWidth k c.loop-r.form.rows) h.width h.shape.shape
+
+pub loop-r-init : goal.loop-r-init
+loop-r-init c =
+    let s = c.args.quotient.now in
+    let n = (dimension_in c.args.induced.now.tables) in
+    let a = orbit z24_parts n (matrix_in s c.args.induced.now.tables) (vector z24_laws exact_z24 c.args.w.now) in
+    let e = ap (λ k. k + k) c.dim-n.ensures.value in
+    let zero : 0 ≡ 0 * length s.translations = omega arith in (
+      subst (λ (k : ℕ). HoldsSpan k24_laws exact24 (n + n) a k c.reserve.new.self) zero
+          (held-start k24 exact24 (n + n) a c.reserve.new.self (c.in_ok-reserve.ensures.width ∙ c.new-form.ensures.width ∙ e) (c.in_ok-reserve.ensures.whole ∙ c.new-form.ensures.whole) (c.in_ok-reserve.ensures.rows ∙ c.new-form.ensures.rows)
+          c.in_ok-reserve.ensures.form),
+      c.in_ok-row.ensures.len ∙ e,
+    )
+
+pub loop-r-preserved : goal.loop-r-preserved
+loop-r-preserved c = (
+  c.in-Ok-true.ensures.held c.in-Ok-true.field-0-test,
+  (let h = c.insert_block.auto.row in let k = c.deref_mut.ensures.value in let m = c.loop-r.row.ok in ?),
+)

@@ -37,7 +37,7 @@ returns-in-Err-Wide-clause-wide c f e =
     let n = dimension_in c.args.induced.now.tables in
     let w = c.in-Err-Wide.ensures.wide (ap Err c.in-Err-Wide.field-0-is) in
     let two : f ≡ 2 = cc in
-    inr (two, exact_rows k24_laws exact24 (lines_of c.in-Ok.lines.items), w.0, c.in-Ok.ensures.basis, w.1, w.2)
+    inr (two, (exact_rows k24_laws exact24 (lines_of c.in-Ok.lines.items), w.0, c.in-Ok.ensures.basis, w.1, w.2))
 
 pub returns-in-Ok-with_basis-clause-few : goal.returns-in-Ok-with_basis-clause-few
 returns-in-Ok-with_basis-clause-few c = subst (λ v. length v.items ≤ 24) (sym c.in-Ok-with_basis.ensures.lines) c.in-Ok.ensures.few
