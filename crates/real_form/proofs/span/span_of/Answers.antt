@@ -9,7 +9,7 @@ use Rattle.induce.specs.Tables.{dimension_in, matrix_in}
 use Rattle.real_form.specs.Parts.{orbit}
 use Rattle.real_form.specs.Complexes.{z24_parts}
 use Rattle.real_form.specs.Spanned.{HoldsSpan}
-use Rattle.real_form.proofs.SpannedLemmas.{held-start, held-other, held-form, held-length}
+use Rattle.real_form.proofs.SpannedLemmas.{written-length, held-start, held-other, held-form, held-length}
 use Rattle.real_form.proofs.span.span_of.Goals as goal
 
 pub returns-else-len-n-clause-none : goal.returns-else-len-n-clause-none
@@ -51,7 +51,8 @@ loop-r-init c =
     )
 
 pub loop-r-preserved : goal.loop-r-preserved
-loop-r-preserved c = (
-  c.in-Ok-true.ensures.held c.in-Ok-true.field-0-test,
-  (let h = c.insert_block.auto.row in let k = c.deref_mut.ensures.value in let m = c.loop-r.row.ok in ?),
-)
+loop-r-preserved c =
+    let n = (dimension_in c.args.induced.now.tables) in (
+      c.in-Ok-true.ensures.held c.in-Ok-true.field-0-test,
+      written-length c.loop-r.row.items c.insert_block.new.row c.loop-r.row.len (n + n) (c.insert_block.auto.row ∙ ap length c.deref_mut.ensures.value) c.loop-r.row.ok.0 c.loop-r.invariant.1,
+    )
