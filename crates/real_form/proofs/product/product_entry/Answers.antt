@@ -1,6 +1,6 @@
-use Rattle.std.proofs.Common.{◌≡◌, ◌+◌, ◌<◌, ◌≤◌, ℕ, sym, ◌∙◌, subst}
+use Rattle.std.proofs.Common.{◌≡◌, ◌+◌, ◌<◌, ◌≤◌, ℕ, sym, subst}
 use Rattle.lin_alg.specs.Matrix.{entry, IsWideDot}
-use Rattle.real_form.proofs.TermLemmas.{total-next, dot-wide, narrow-next, narrow-end, on-err, factors-wide}
+use Rattle.real_form.proofs.TermLemmas.{total-step, dot-wide, narrow-next, narrow-end, on-err, factors-wide}
 use Rattle.real_form.proofs.product.product_entry.Goals as goal
 
 pub loop-k-preserved : goal.loop-k-preserved
@@ -13,7 +13,7 @@ loop-k-preserved g c =
     let s = v c.loop-k.sum in
     let a : v c.get.result ≡ x k = c.get.ensures in
     let b : v c.get-in-loop-k.result ≡ y k = c.get-in-loop-k.ensures in (
-      total-next f k x y s (v c.in_ok-sum.sum) c.loop-k.invariant.0 (c.in_ok-sum.ensures.exact ∙ (λ t. f.laws.plus s (f.laws.times (a t) (b t)))),
+      total-step f k x y s (v c.in_ok-sum.sum) (v c.get.result) (v c.get-in-loop-k.result) c.loop-k.invariant.0 c.in_ok-sum.ensures.exact a b,
       narrow-next f k x y s c.loop-k.invariant.0 (λ h. c.in_ok-sum.ensures.narrow (factors-wide f s (x k) (y k) (v c.get.result) (v c.get-in-loop-k.result) (sym a) (sym b) h)) c.loop-k.invariant.1,
     )
 
