@@ -65,3 +65,17 @@ module _ (kind : Kind) (n r : ℕ) (e : r ≡ real_dimension kind n) (few : r �
 
   pub few-pseudoreal : kind ≡ Pseudoreal → n + n ≤ 24
   few-pseudoreal k = let same : r ≡ 2 * n = e ∙ ap (λ x. real_dimension x n) k in omega (arith, same, few)
+
+-- as many rows as the real dimension, by kind
+module _ (kind : Kind) (n : ℕ) where
+  pub count-real : kind ≡ Real → n ≡ real_dimension kind n
+  count-real k = sym (ap (λ x. real_dimension x n) k)
+
+  two : n + n ≡ 2 * n
+  two = omega arith
+
+  pub count-complex : kind ≡ Complex → n + n ≡ real_dimension kind n
+  count-complex k = two ∙ sym (ap (λ x. real_dimension x n) k)
+
+  pub count-pseudoreal : kind ≡ Pseudoreal → n + n ≡ real_dimension kind n
+  count-pseudoreal k = two ∙ sym (ap (λ x. real_dimension x n) k)

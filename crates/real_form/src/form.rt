@@ -36,13 +36,14 @@ pub struct RealForm {
 }
 
 impl RealForm {
-    ghost use Rattle.std.specs.Prelude.{◌≡◌, ◌<◌, ◌≤◌, ◌⊎◌, ◌∷◌, [], ℕ, Err, IfOk, length, slice_index_or};
+    ghost use Rattle.std.specs.Prelude.{◌≡◌, ◌<◌, ◌≤◌, ◌+◌, ◌⊎◌, ◌∷◌, [], ℕ, Err, IfOk, length, slice_index_or};
     ghost use Rattle.std.specs.Option.{option_copied, ForSome};
     ghost use Rattle.cyclo24.specs.K24.{exact24};
     ghost use Rattle.cyclo24.specs.ExactK24.{Exact24, k24_laws};
-    ghost use Rattle.lin_alg.specs.Rows.{exact_rows};
+    ghost use Rattle.lin_alg.specs.Rows.{exact_rows, HaveWidth};
     ghost use Rattle.lin_alg.specs.Action.{entry_of};
     ghost use Rattle.super_group.specs.Quotient.{order_of};
+    ghost use Rattle.induce.specs.Kinds.{real_dimension};
     ghost use Rattle.induce.specs.Tables.{dimension_in, matrix_in};
     ghost use Rattle.induce.specs.InducedView.{IsInducedOf};
     ghost use Rattle.induce.specs.declared.kinds.Kind.TheVariants as kind_of;
@@ -73,6 +74,8 @@ impl RealForm {
         ensures basis { IfOk result (λ form. IsRealBasis induced.now.kind (dimension_in induced.now.tables) (order_of quotient.now) (matrix_in quotient.now induced.now.tables) (tried (dimension_in induced.now.tables) (option_copied given.entry)) (exact_rows k24_laws exact24 (basis_of form))) }
         ensures matrices { IfOk result (λ form. AreMatricesIn z24_parts (dimension_in induced.now.tables) (matrix_in quotient.now induced.now.tables) (order_of quotient.now) (exact_rows k24_laws exact24 (basis_of form)) (entry_of k24_laws (action_of form))) }
         ensures quotient { IfOk result (λ form. form.quotient ≡ quotient.now) }
+        ensures width { IfOk result (λ form. HaveWidth (dimension_in induced.now.tables + dimension_in induced.now.tables) (basis_of form)) }
+        ensures dim { IfOk result (λ form. (action_of form).dim ≡ real_dimension induced.now.kind (dimension_in induced.now.tables)) }
         ensures few { IfOk result (λ form. (action_of form).dim ≤ 24) }
         ensures none { (result ≡ Err form_error.NoRealBasis) → (induced.now.kind ≡ kind_of.Real) × NoneOf (FitsNot (dimension_in induced.now.tables) (order_of quotient.now) (matrix_in quotient.now induced.now.tables)) (tried (dimension_in induced.now.tables) (option_copied given.entry)) }
         ensures wide { (f : ℕ) → (result ≡ Err (form_error.Wide f)) → ((f ≡ 1) × (induced.now.kind ≡ kind_of.Real) × IsWideSpans (dimension_in induced.now.tables) (order_of quotient.now) (matrix_in quotient.now induced.now.tables) (tried (dimension_in induced.now.tables) (option_copied given.entry))) ⊎ ((f ≡ 2) × IsWideForm induced.now.kind (dimension_in induced.now.tables) (length quotient.now.translations) (length quotient.now.parent.ops) (matrix_in quotient.now induced.now.tables) (tried (dimension_in induced.now.tables) (option_copied given.entry))) }
@@ -90,7 +93,7 @@ impl RealForm {
 
     /// Row i of the basis: n real parts and then n imaginary parts.
     pub fn basis(&self, i: usize) -> &[K24]
-        requires { i < length (basis_of self.now) }
+        requires { i < (action_of self.now).dim }
         ensures { result.now ≡ (slice_index_or (basis_of self.now) i (0, [])).1 }
     {
         &self.lines[i].1

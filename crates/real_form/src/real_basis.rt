@@ -5,6 +5,7 @@ ghost use Rattle.cyclo24.specs.K24.{exact24};
 ghost use Rattle.cyclo24.specs.ExactK24.{k24_laws};
 ghost use Rattle.lin_alg.specs.Rows.{exact_rows};
 ghost use Rattle.super_group.specs.Quotient.{order_of};
+ghost use Rattle.induce.specs.Kinds.{real_dimension};
 ghost use Rattle.induce.specs.Tables.{dimension_in, matrix_in};
 ghost use Rattle.induce.specs.InducedView.{IsInducedOf};
 ghost use Rattle.induce.specs.declared.kinds.Kind.TheVariants as kind_of;
@@ -37,6 +38,7 @@ pub(crate) fn basis_lines(
     requires given { ForSome given (λ w. length w.now ≡ (dimension_in induced.now.tables)) }
     ensures basis { IfOk result (λ lines. IsRealBasis induced.now.kind (dimension_in induced.now.tables) (order_of quotient.now) (matrix_in quotient.now induced.now.tables) (tried (dimension_in induced.now.tables) (option_copied given.entry)) (exact_rows k24_laws exact24 (lines_of lines.items))) }
     ensures kept { IfOk result (λ lines. IsKeptBasis (order_of quotient.now) (dimension_in induced.now.tables) (matrix_in quotient.now induced.now.tables) (lines_of lines.items)) }
+    ensures count { IfOk result (λ lines. length lines.items ≡ real_dimension induced.now.kind (dimension_in induced.now.tables)) }
     ensures few { IfOk result (λ lines. length lines.items ≤ 24) }
     ensures none { (result ≡ Err form_error.NoRealBasis) → (induced.now.kind ≡ kind_of.Real) × NoneOf (FitsNot (dimension_in induced.now.tables) (order_of quotient.now) (matrix_in quotient.now induced.now.tables)) (tried (dimension_in induced.now.tables) (option_copied given.entry)) }
     ensures wide { (f : ℕ) → (result ≡ Err (form_error.Wide f)) → (f ≡ 1) × (induced.now.kind ≡ kind_of.Real) × IsWideSpans (dimension_in induced.now.tables) (order_of quotient.now) (matrix_in quotient.now induced.now.tables) (tried (dimension_in induced.now.tables) (option_copied given.entry)) }

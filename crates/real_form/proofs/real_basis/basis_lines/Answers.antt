@@ -4,6 +4,7 @@ use Rattle.cyclo24.specs.K24.{exact24}
 use Rattle.cyclo24.specs.ExactK24.{k24_laws}
 use Rattle.lin_alg.specs.Rows.{exact_rows}
 use Rattle.super_group.specs.Quotient.{order_of}
+use Rattle.induce.specs.Kinds.{real_dimension}
 use Rattle.induce.specs.Tables.{dimension_in, matrix_in}
 use Rattle.real_form.specs.declared.errors.FormError.TheVariants.{NoRealBasis, Wide, NoMemory}
 use Rattle.real_form.specs.Bases.{unit_rows}
@@ -12,7 +13,7 @@ use Rattle.real_form.specs.Orbits.{FirstOf}
 use Rattle.real_form.specs.RealBasis.{IsBasisOf, FitsNot, IsRealBasis}
 use Rattle.real_form.specs.Vectors.{lines_of}
 use Rattle.real_form.proofs.ImageLemmas.{ok-map}
-use Rattle.real_form.proofs.KeptLemmas.{basis-real, basis-complex, basis-pseudoreal, few-real, few-complex, few-pseudoreal}
+use Rattle.real_form.proofs.KeptLemmas.{basis-real, basis-complex, basis-pseudoreal, few-real, few-complex, few-pseudoreal, count-real, count-complex, count-pseudoreal}
 use Rattle.real_form.proofs.real_basis.basis_lines.Goals as goal
 
 real-basis-memory : NoRealBasis ≡ NoMemory → ⊥
@@ -98,3 +99,21 @@ returns-in-Complex-clause-wide c f e = absurd (wide-memory f (c.doubled_lines.en
 
 pub returns-in-Pseudoreal-clause-wide : goal.returns-in-Pseudoreal-clause-wide
 returns-in-Pseudoreal-clause-wide c f e = absurd (wide-memory f (c.doubled_lines-in-Pseudoreal.ensures.memory (Wide f) e))
+
+pub returns-in-Real-clause-count : goal.returns-in-Real-clause-count
+returns-in-Real-clause-count c =
+    let n = dimension_in c.args.induced.now.tables in
+    let e = count-real c.args.induced.now.kind n (sym c.kind.ensures ∙ c.in-Real.is) in
+    ok-map c.spanned_lines.result (λ lines. length lines.items ≡ n) (λ lines. length lines.items ≡ real_dimension c.args.induced.now.kind n) (λ lines h. h ∙ e) c.spanned_lines.ensures.count
+
+pub returns-in-Complex-clause-count : goal.returns-in-Complex-clause-count
+returns-in-Complex-clause-count c =
+    let n = dimension_in c.args.induced.now.tables in
+    let e = count-complex c.args.induced.now.kind n (sym c.kind.ensures ∙ c.in-Complex.is) in
+    ok-map c.doubled_lines.result (λ lines. length lines.items ≡ n + n) (λ lines. length lines.items ≡ real_dimension c.args.induced.now.kind n) (λ lines h. h ∙ e) c.doubled_lines.ensures.count
+
+pub returns-in-Pseudoreal-clause-count : goal.returns-in-Pseudoreal-clause-count
+returns-in-Pseudoreal-clause-count c =
+    let n = dimension_in c.args.induced.now.tables in
+    let e = count-pseudoreal c.args.induced.now.kind n (sym c.kind.ensures ∙ c.in-Pseudoreal.is) in
+    ok-map c.doubled_lines-in-Pseudoreal.result (λ lines. length lines.items ≡ n + n) (λ lines. length lines.items ≡ real_dimension c.args.induced.now.kind n) (λ lines h. h ∙ e) c.doubled_lines-in-Pseudoreal.ensures.count

@@ -1,12 +1,13 @@
-use Rattle.std.proofs.Common.{◌≡◌, ◌≤◌, ℕ, inl, inr, sym, ap, subst, List, length}
+use Rattle.std.proofs.Common.{◌≡◌, ◌≤◌, ◌+◌, ℕ, inl, inr, sym, ap, subst, List, length}
 use Rattle.std.specs.Prelude.{Err}
 use Rattle.std.specs.Option.{option_copied}
 use Rattle.real_form.specs.declared.errors.FormError.TheVariants.{NoRealBasis, Wide}
 use Rattle.cyclo24.specs.declared.k24.K24.{K24}
 use Rattle.cyclo24.specs.K24.{exact24}
 use Rattle.cyclo24.specs.ExactK24.{k24_laws}
-use Rattle.lin_alg.specs.Rows.{exact_rows}
+use Rattle.lin_alg.specs.Rows.{exact_rows, HaveWidth}
 use Rattle.super_group.specs.Quotient.{order_of}
+use Rattle.induce.specs.Kinds.{real_dimension}
 use Rattle.induce.specs.Tables.{dimension_in, matrix_in}
 use Rattle.real_form.specs.Candidates.{tried}
 use Rattle.real_form.specs.RealBasis.{IsRealBasis}
@@ -41,3 +42,13 @@ returns-in-Err-Wide-clause-wide c f e =
 
 pub returns-in-Ok-with_basis-clause-few : goal.returns-in-Ok-with_basis-clause-few
 returns-in-Ok-with_basis-clause-few c = subst (λ v. length v.items ≤ 24) (sym c.in-Ok-with_basis.ensures.lines) c.in-Ok.ensures.few
+
+pub returns-in-Ok-with_basis-clause-dim : goal.returns-in-Ok-with_basis-clause-dim
+returns-in-Ok-with_basis-clause-dim c =
+    subst (λ v. length v.items ≡ real_dimension c.args.induced.now.kind (dimension_in c.args.induced.now.tables)) (sym c.in-Ok-with_basis.ensures.lines) c.in-Ok.ensures.count
+
+pub returns-in-Ok-with_basis-clause-width : goal.returns-in-Ok-with_basis-clause-width
+returns-in-Ok-with_basis-clause-width c =
+    let n = dimension_in c.args.induced.now.tables in
+    let rows : lines_of c.in-Ok.lines.items ≡ lines_of c.in-Ok-with_basis.form.lines.items = ap (λ v. lines_of v.items) (sym c.in-Ok-with_basis.ensures.lines) in
+    subst (λ (rows : List (ℕ × List K24)). HaveWidth (n + n) rows) rows c.in-Ok.ensures.kept.width
