@@ -1,8 +1,9 @@
 // From a file's bytes to its small representation, and to what that induces.
-ghost use Rattle.std.specs.Prelude.{◌≡◌};
+ghost use Rattle.std.specs.Prelude.{◌≡◌, ◌≤◌, length};
 ghost use Rattle.iso_text.specs.Ranges.{IsBlock, IsInRange};
 ghost use Rattle.kstar.specs.Fraction.{IsWaveVector, row_of};
 ghost use Rattle.kstar.specs.Star.{IsStarOf};
+ghost use Rattle.super_group.specs.Supercell.{IsSupercell};
 ghost use Rattle.small_rep.specs.Rep.{IsRepOf};
 ghost use Rattle.induce.specs.CellPhase.{AreWholeOn};
 ghost use Rattle.induce.specs.InducedView.{IsInducedOf};
@@ -58,23 +59,27 @@ pub fn checked_of(
     rep.check(alloc).expect(rt, "a small representation")
 }
 
-/// The quotient of a group by the supercell of a wave vector.
-pub fn quotient_of(
-    rt: &impl Abort,
-    alloc: Global,
-    group: Group,
-    k: KVector,
-    star: &Star,
-) -> Quotient
+/// The multipliers of the supercell of a wave vector.
+fn multipliers_of(rt: &impl Abort, group: &Group, k: KVector, star: &Star) -> [u32; 3]
+    requires three { length k.parts ≡ 3 }
     requires wave { IsWaveVector k }
-    requires star { IsStarOf group (row_of k) star.now }
-    ensures parent { result.parent ≡ group }
-    ensures cells { AreWholeOn result.d star.now }
+    requires star { IsStarOf group.now (row_of k) star.now }
+    ensures supercell { IsSupercell group.now.ops result }
+    ensures cells { AreWholeOn result star.now }
 {
     law_of_cells();
+    let _count = group.len();
     let dens = [[k.parts[0].den, k.parts[1].den, k.parts[2].den]];
     assert!(rt; are_denominators(&dens));
-    let d = multipliers(&group, &dens);
+    multipliers(group, &dens)
+}
+
+/// The quotient of a group by a supercell.
+fn quotient_of(rt: &impl Abort, alloc: Global, group: Group, d: [u32; 3]) -> Quotient
+    requires { IsSupercell group.ops d }
+    ensures parent { result.parent ≡ group }
+    ensures d { result.d ≡ d }
+{
     Quotient::new(alloc, group, d).expect(rt, "a quotient")
 }
 
@@ -86,17 +91,19 @@ pub struct Case {
 }
 
 /// What the small representation of a file's bytes induces.
-pub fn induced_of(rt: &impl Abort, alloc: Global, file: &str) -> Case
+pub fn induced_of(rt: &impl Abort, alloc: Global, file: &[u8]) -> Case
+    requires { length file.now ≤ 1048576 }
     ensures { IsInducedOf result.quotient result.induced }
 {
-    let document = Document::read(alloc, file.as_bytes()).expect(rt, "a file");
+    let document = Document::read(alloc, file).expect(rt, "a file");
     let text = block_of(rt, &document);
     let k = KVector { parts: text.k };
     assert!(rt; k.is_wave_vector());
     let group = group_of(rt, alloc, document.hall());
     let star = star_of(rt, alloc, &group, k);
     let rep = checked_of(rt, alloc, &group, &star, text);
-    let quotient = quotient_of(rt, alloc, group, k, &star);
+    let d = multipliers_of(rt, &group, k, &star);
+    let quotient = quotient_of(rt, alloc, group, d);
     let induced = Induced::new(alloc, &quotient, star, rep).expect(rt, "matrices");
     Case { quotient, induced }
 }

@@ -114,7 +114,7 @@ fn has_row(form: &RealForm, q: usize, i: usize, want: [K24; 2]) -> bool {
 
 #[test]
 fn a_pair(rt: HostRuntime) {
-    let case = induced_of(&rt, rt.alloc(), PAIR);
+    let case = induced_of(&rt, rt.alloc(), PAIR.as_bytes());
     let form = form_of(&rt, rt.alloc(), &case);
     let zero = K24::zero();
     let one = K24::one();
@@ -132,7 +132,7 @@ fn a_pair(rt: HostRuntime) {
 
 #[test]
 fn a_given_vector(rt: HostRuntime) {
-    let case = induced_of(&rt, rt.alloc(), UNEQUAL);
+    let case = induced_of(&rt, rt.alloc(), UNEQUAL.as_bytes());
     let none = RealForm::new(rt.alloc(), &case.quotient, &case.induced, None);
     assert!(rt; is_no_basis(&none));
     let one = Z24::one();
@@ -149,7 +149,7 @@ fn a_given_vector(rt: HostRuntime) {
 
 #[test]
 fn both_parts_of_a_screw(rt: HostRuntime) {
-    let case = induced_of(&rt, rt.alloc(), SCREW);
+    let case = induced_of(&rt, rt.alloc(), SCREW.as_bytes());
     let form = form_of(&rt, rt.alloc(), &case);
     let zero = K24::zero();
     let one = K24::one();

@@ -1,5 +1,6 @@
 -- What contracts see of a real form.
 --
+-- quotient_of x: the quotient that acts
 -- basis_of x: its rows with their pivots
 -- action_of x: the quotient with its generators, and the matrices in the basis
 -- action_of-lawful x: its laws
@@ -7,11 +8,15 @@ use Rattle.std.specs.Prelude.{ℕ, List, length}
 use Rattle.cyclo24.specs.declared.k24.K24.{K24}
 use Rattle.cyclo24.specs.ExactK24.{k24, k24_laws}
 use Rattle.lin_alg.specs.Action.{Action, IsAction}
-use Rattle.super_group.specs.Quotient.{quotient_group, generators_of}
+use Rattle.super_group.specs.Quotient.{SupercellGroup, quotient_group, generators_of}
 use Rattle.real_form.specs.declared.form.RealForm.{RealForm}
 use Rattle.real_form.specs.Actions.{action_by, action-lawful}
 use Rattle.real_form.specs.Held.{generator_of, entry_in}
 use Rattle.real_form.specs.Vectors.{lines_of}
+
+-- the quotient that acts
+abbrev pub quotient_of : RealForm → SupercellGroup
+quotient_of x = x.quotient
 
 -- the rows of the basis with their pivots
 abbrev pub basis_of : RealForm → List (ℕ × List K24)

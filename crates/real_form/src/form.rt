@@ -56,7 +56,7 @@ impl RealForm {
     ghost use Rattle.lin_alg.specs.declared.errors.LinError.TheVariants as lin_error;
     ghost use Rattle.real_form.specs.KeptBasis.{IsKeptBasis};
     ghost use Rattle.real_form.specs.Vectors.{lines_of};
-    ghost use Rattle.real_form.specs.RealForm.{basis_of, action_of};
+    ghost use Rattle.real_form.specs.RealForm.{quotient_of, basis_of, action_of};
 
     /// The real form of an induced representation of n complex dimensions. Where its kind isn't real, it
     /// is the space of all 2n real coordinates. Where it is real, it is the real span of the orbit of the
@@ -73,7 +73,7 @@ impl RealForm {
         requires given { ForSome given (λ w. length w.now ≡ (dimension_in induced.now.tables)) }
         ensures basis { IfOk result (λ form. IsRealBasis induced.now.kind (dimension_in induced.now.tables) (order_of quotient.now) (matrix_in quotient.now induced.now.tables) (tried (dimension_in induced.now.tables) (option_copied given.entry)) (exact_rows k24_laws exact24 (basis_of form))) }
         ensures matrices { IfOk result (λ form. AreMatricesIn z24_parts (dimension_in induced.now.tables) (matrix_in quotient.now induced.now.tables) (order_of quotient.now) (exact_rows k24_laws exact24 (basis_of form)) (entry_of k24_laws (action_of form))) }
-        ensures quotient { IfOk result (λ form. form.quotient ≡ quotient.now) }
+        ensures quotient { IfOk result (λ form. quotient_of form ≡ quotient.now) }
         ensures width { IfOk result (λ form. HaveWidth (dimension_in induced.now.tables + dimension_in induced.now.tables) (basis_of form)) }
         ensures dim { IfOk result (λ form. (action_of form).dim ≡ real_dimension induced.now.kind (dimension_in induced.now.tables)) }
         ensures few { IfOk result (λ form. (action_of form).dim ≤ 24) }

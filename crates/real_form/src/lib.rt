@@ -3,7 +3,8 @@
 //! Source: Bradley and Cracknell on physically irreducible representations; Serre, 13.2, on
 //! representations over real fields. Conventions: a complex vector of n entries is the real one of its n
 //! real parts and then its n imaginary parts; column m of A(q) is the image of basis vector m.
-//! For the layer above: `RealForm` is an `Acts<K24>` of the quotient that is never wide.
+//! For the layer above: `RealForm` is an `Acts<K24>` of the quotient that is never wide. The smallest
+//! call: `RealForm::new(alloc, &quotient, &induced, None)?.basis(0)`.
 #![tactic(auto)]
 
 mod assembly;
