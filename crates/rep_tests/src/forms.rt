@@ -71,7 +71,8 @@ fn cosine(rt: &impl Abort, a: u8) -> K24
     Z24::root(a).real_part().expect(rt, "a number")
 }
 
-fn form_of(rt: &impl Abort, alloc: Global, case: &Case) -> RealForm
+/// The real form of a case.
+pub fn form_of(rt: &impl Abort, alloc: Global, case: &Case) -> RealForm
     requires { IsInducedOf case.now.quotient case.now.induced }
 {
     RealForm::new(alloc, &case.quotient, &case.induced, None).expect(rt, "a real form")
@@ -85,14 +86,16 @@ fn given_form(rt: &impl Abort, alloc: Global, case: &Case, w: &[Z24]) -> Result<
     RealForm::new(alloc, &case.quotient, &case.induced, Some(w))
 }
 
-fn is_no_basis(form: &Result<RealForm, FormError>) -> bool {
+/// Whether there is no real basis.
+pub fn is_no_basis(form: &Result<RealForm, FormError>) -> bool {
     match form {
         Ok(_) => false,
         Err(error) => *error == FormError::NoRealBasis,
     }
 }
 
-fn has_basis(form: &RealForm, i: usize, want: &[K24]) -> bool {
+/// Whether row i of the basis is this one.
+pub fn has_basis(form: &RealForm, i: usize, want: &[K24]) -> bool {
     i < form.dim() && form.basis(i) == want
 }
 

@@ -10,3 +10,5 @@ mod forms;
 mod hexagonal;
 #[cfg(test)]
 mod induced;
+#[cfg(test)]
+mod measured_forms;
