@@ -22,35 +22,49 @@ pub(crate) struct Arrow {
     pub(crate) to: usize,
 }
 
+// What arrows are made of: the allocator, the action and the held subspaces.
+#[derive(Drop)]
+struct Given<'a, F: Field, G> {
+    alloc: Global,
+    acts: &'a G,
+    spaces: &'a Subspaces<F>,
+}
+
 // The place of the image of the subspace at a place. The lent rows are only room.
 fn image_place<F: Field, G: Acts<F>, L: Ledger>(
-    alloc: Global,
-    acts: &G,
+    given: &Given<F, G>,
     q: usize,
-    spaces: &Subspaces<F>,
     i: usize,
     line: &mut [F],
     row: &mut [F],
     steps: &mut Steps<L>,
 ) -> Result<usize, ListError>
-    requires element { q < (G.action acts.now).group.order }
-    requires width { spaces.now.width ≡ (G.action acts.now).dim }
-    requires holds { HoldsFixes F.field.laws (G.action acts.now) (exact_forms F.field.laws F.value spaces.now.forms) }
-    requires place { i < length spaces.now.forms }
-    requires line { length line.old ≡ (G.action acts.now).dim }
-    requires row { length row.old ≡ (G.action acts.now).dim }
-    ensures below { IfOk result (λ k. k < length spaces.now.forms) }
-    ensures image { IfOk result (λ k. IsImageForm F.field.laws (G.action acts.now) q (form_at (exact_forms F.field.laws F.value spaces.now.forms) i) (form_at (exact_forms F.field.laws F.value spaces.now.forms) k)) }
-    ensures wide { (result ≡ Err list_error.WideImage) → G.wide acts.now ⊎ IsWideImageOf F.field (G.action acts.now) q (form_at (exact_forms F.field.laws F.value spaces.now.forms) i) }
+    requires element { q < (G.action given.now.acts.now).group.order }
+    requires width { given.now.spaces.now.width ≡ (G.action given.now.acts.now).dim }
+    requires holds { HoldsFixes F.field.laws (G.action given.now.acts.now) (exact_forms F.field.laws F.value given.now.spaces.now.forms) }
+    requires place { i < length given.now.spaces.now.forms }
+    requires line { length line.old ≡ (G.action given.now.acts.now).dim }
+    requires row { length row.old ≡ (G.action given.now.acts.now).dim }
+    ensures below { IfOk result (λ k. k < length given.now.spaces.now.forms) }
+    ensures image { IfOk result (λ k. IsImageForm F.field.laws (G.action given.now.acts.now) q (form_at (exact_forms F.field.laws F.value given.now.spaces.now.forms) i) (form_at (exact_forms F.field.laws F.value given.now.spaces.now.forms) k)) }
+    ensures wide { (result ≡ Err list_error.WideImage) → G.wide given.now.acts.now ⊎ IsWideImageOf F.field (G.action given.now.acts.now) q (form_at (exact_forms F.field.laws F.value given.now.spaces.now.forms) i) }
     ensures never { (result ≡ Err list_error.WideStabiliser) → ⊥ }
-    ensures cost { steps.new ≤ steps.old + (G.action acts.now).dim }
+    ensures cost { steps.new ≤ steps.old + (G.action given.now.acts.now).dim }
 {
-    let image = match image_form(alloc, acts, q, spaces.get(i), line, row, steps) {
+    let image = match image_form(
+        given.alloc,
+        given.acts,
+        q,
+        given.spaces.get(i),
+        line,
+        row,
+        steps,
+    ) {
         Ok(image) => image,
         Err(error) => return Err(error),
     };
     let key = Form::new(image);
-    match spaces.set().get_index_of(&key) {
+    match given.spaces.set().get_index_of(&key) {
         Some(place) => Ok(place),
         None => unreachable!(),
     }
@@ -58,29 +72,27 @@ fn image_place<F: Field, G: Acts<F>, L: Ledger>(
 
 // Adds the arrows of generator j. The lent rows are only room.
 fn add_arrows<F: Field, G: Acts<F>, L: Ledger>(
-    alloc: Global,
-    acts: &G,
+    given: &Given<F, G>,
     j: usize,
-    spaces: &Subspaces<F>,
     arrows: &mut Vec<Arrow>,
     line: &mut [F],
     row: &mut [F],
     steps: &mut Steps<L>,
 ) -> Result<(), ListError>
-    requires generator { j < (G.action acts.now).generators }
-    requires width { spaces.now.width ≡ (G.action acts.now).dim }
-    requires holds { HoldsFixes F.field.laws (G.action acts.now) (exact_forms F.field.laws F.value spaces.now.forms) }
-    requires arrows { AreArrows F.field.laws (G.action acts.now) (exact_forms F.field.laws F.value spaces.now.forms) j 0 arrows.old.items }
-    requires line { length line.old ≡ (G.action acts.now).dim }
-    requires row { length row.old ≡ (G.action acts.now).dim }
-    ensures arrows { OnOk result (AreArrows F.field.laws (G.action acts.now) (exact_forms F.field.laws F.value spaces.now.forms) (j + 1) 0 arrows.new.items) }
-    ensures wide { (result ≡ Err list_error.WideImage) → G.wide acts.now ⊎ IsWideImages F.field (G.action acts.now) }
+    requires generator { j < (G.action given.now.acts.now).generators }
+    requires width { given.now.spaces.now.width ≡ (G.action given.now.acts.now).dim }
+    requires holds { HoldsFixes F.field.laws (G.action given.now.acts.now) (exact_forms F.field.laws F.value given.now.spaces.now.forms) }
+    requires arrows { AreArrows F.field.laws (G.action given.now.acts.now) (exact_forms F.field.laws F.value given.now.spaces.now.forms) j 0 arrows.old.items }
+    requires line { length line.old ≡ (G.action given.now.acts.now).dim }
+    requires row { length row.old ≡ (G.action given.now.acts.now).dim }
+    ensures arrows { OnOk result (AreArrows F.field.laws (G.action given.now.acts.now) (exact_forms F.field.laws F.value given.now.spaces.now.forms) (j + 1) 0 arrows.new.items) }
+    ensures wide { (result ≡ Err list_error.WideImage) → G.wide given.now.acts.now ⊎ IsWideImages F.field (G.action given.now.acts.now) }
     ensures never { (result ≡ Err list_error.WideStabiliser) → ⊥ }
-    ensures cost { OnOk result (steps.new ≤ steps.old + (G.action acts.now).dim * length spaces.now.forms) }
+    ensures cost { OnOk result (steps.new ≤ steps.old + (G.action given.now.acts.now).dim * length given.now.spaces.now.forms) }
 {
-    let q = acts.generator(j);
-    for i in 0..spaces.len() {
-        let to = match image_place(alloc, acts, q, spaces, i, line, row, steps) {
+    let q = given.acts.generator(j);
+    for i in 0..given.spaces.len() {
+        let to = match image_place(given, q, i, line, row, steps) {
             Ok(to) => to,
             Err(error) => return Err(error),
         };
@@ -109,17 +121,13 @@ pub(crate) fn arrows_of<F: Field, G: Acts<F>, L: Ledger>(
     let mut line = zeros(alloc, acts.dim())?;
     let mut row = zeros(alloc, acts.dim())?;
     let mut arrows = Vec::new(alloc);
+    let given = Given {
+        alloc,
+        acts,
+        spaces,
+    };
     for j in 0..acts.generators() {
-        match add_arrows(
-            alloc,
-            acts,
-            j,
-            spaces,
-            &mut arrows,
-            &mut line,
-            &mut row,
-            steps,
-        ) {
+        match add_arrows(&given, j, &mut arrows, &mut line, &mut row, steps) {
             Ok(()) => {}
             Err(error) => return Err(error),
         }

@@ -4,9 +4,9 @@
 -- closing-conjugate, closing-image: places of images
 -- reached-own, reached-image, reached-grown: forms that are images of forms that are cut with each Fix(q)
 -- closing-classes: the tables at the end
--- pairs-bound: how many pairs were cut
-use Rattle.std.proofs.Common.{◌≡◌, ℕ, suc, ◌<◌, ◌≤◌, ◌+◌, ◌*◌, ◌⊎◌, inl, inr, Bool, true, false, refl, sym, ◌∙◌, ap, subst, List, [], ◌∷◌, ◌++◌, ◌↔◌, arith, length, get_or, set}
-use Rattle.std.proofs.lemmas.List.{get_or-set_other}
+-- cuts-bound: how many cuts there are
+use Rattle.std.proofs.Common.{◌≡◌, ℕ, suc, ◌<◌, ◌≤◌, ◌+◌, ◌*◌, ◌⊎◌, inl, inr, Bool, sym, ◌∙◌, ap, subst, List, [], ◌∷◌, ◌↔◌, arith, length, get_or}
+use Rattle.std.proofs.Math.Nat.{mul-le-mul_right}
 use Rattle.cyclo24.specs.ExactField.{ExactField, Value}
 use Rattle.lin_alg.specs.Action.{Action, IsAction, IsFixed}
 use Rattle.lin_alg.specs.ActionLaws.{image-identity}
@@ -15,43 +15,31 @@ use Rattle.lin_alg.specs.Images.{moves_of}
 use Rattle.lin_alg.specs.ImageLaws.{are-moves}
 use Rattle.lin_alg.specs.Moves.{conjugate}
 use Rattle.lin_alg.specs.MoveLaws.{conjugate-below}
-use Rattle.lin_alg.specs.UnionLaws.{lower}
 use Rattle.fix_lattice.specs.Lattice.{IsInSpace, form_at}
 use Rattle.fix_lattice.specs.LatticeLaws.{fix-vanishes, fix-form-same}
 use Rattle.fix_lattice.specs.Held.{IsFixSpace, IsSingleSpace, IsMeet, HasMeet, IsGrown, IsCutAt, IsNoted, HoldsSingles}
 use Rattle.fix_lattice.proofs.HeldLemmas.{put-all, grown-at, grown-meet, cut-fixed, single-fix, singles-only}
-use Rattle.fix_lattice.proofs.PairLemmas.{pairs-few}
-use Rattle.fix_lattice.specs.Classes.{IsImageForm, IsCutWithEach, IsReached, IsClassClosed, IsClosing, IsImageRow, AreImages, AreCovered, AreReached}
+use Rattle.fix_lattice.specs.Cuts.{cut_entry, cut_count, AreShort, IsCutNoted}
+use Rattle.fix_lattice.proofs.CutRowLemmas.{cuts-few, entry-inside}
+use Rattle.fix_lattice.specs.Classes.{IsImageForm, IsCutWithEach, IsReached, IsClassClosed, IsClosing, AreImages, AreCovered}
 use Rattle.fix_lattice.proofs.ClassLemmas.{image-single, image-meet, image-own, image-after}
-use Rattle.fix_lattice.proofs.ListLemmas.{get_or-last, get_or-front, length-last, each-last}
+use Rattle.fix_lattice.proofs.ImageRowLemmas.{grown-image}
+use Rattle.fix_lattice.proofs.ListLemmas.{length-last, each-last}
 
--- a new pair leaves the pairs different
-pub once-last : (pairs : List (ℕ × ℕ)) (x : ℕ × ℕ) → ((s t : ℕ) → s < t → t < length pairs → get_or pairs s (0, 0) ≡ get_or pairs t (0, 0) → ⊥) →
-    ((t : ℕ) → t < length pairs → get_or pairs t (0, 0) ≡ x → ⊥) → (s t : ℕ) → s < t → t < length (pairs ++ x ∷ []) → get_or (pairs ++ x ∷ []) s (0, 0) ≡ get_or (pairs ++ x ∷ []) t (0, 0) → ⊥
-once-last pairs x once fresh s t g l e =
-    let n = length-last pairs x in
-    let m : t < suc (length pairs) = omega arith in
-    let sl : s < length pairs = omega arith in
-    let at_s = get_or-front pairs x (0, 0) s sl in
-    elim (lower t (length pairs) m) [
-      | inl k ↦ once s t g k (sym at_s ∙ e ∙ get_or-front pairs x (0, 0) t k)
-      | inr d ↦ fresh s sl (sym at_s ∙ e ∙ ap (λ z. get_or (pairs ++ x ∷ []) z (0, 0)) d ∙ get_or-last pairs x (0, 0))
-    ]
-
--- different pairs of one of m forms and one of the fixes are at most n fixes for each n from m on
-pub pairs-bound : (pairs : List (ℕ × ℕ)) (m n fixes : ℕ) → m ≤ n → ((t : ℕ) → t < length pairs → ((get_or pairs t (0, 0)).0 < m) × ((get_or pairs t (0, 0)).1 < fixes)) →
-    ((s t : ℕ) → s < t → t < length pairs → get_or pairs s (0, 0) ≡ get_or pairs t (0, 0) → ⊥) → length pairs ≤ n * fixes
-pairs-bound pairs m n fixes l inside once =
-    pairs-few (λ t. (get_or pairs t (0, 0)).0) (λ t. (get_or pairs t (0, 0)).1) (length pairs) n fixes
-    (λ t b. let i = (inside t b).0 in omega arith) (λ t b. (inside t b).1)
-    (λ s t g b p q. once s t g b (λ i. (p i, q i)))
+-- no row more than forms, each at most as long as there are Fix(q)
+pub cuts-bound : (cuts : List (List ℕ)) (m n fixes : ℕ) → m ≤ n → length cuts ≤ m → AreShort fixes cuts → cut_count cuts ≤ n * fixes
+cuts-bound cuts m n fixes l k s =
+    let a = cuts-few cuts fixes s in
+    let within : length cuts ≤ n = omega arith in
+    let b : length cuts * fixes ≤ n * fixes = mul-le-mul_right fixes within in
+    omega arith
 
 same : (i y : ℕ) → (i ≡ y) ⊎ (i ≡ y → ⊥)
 same i y = grind arith
 
 module _ (f : ExactField) (act : Action) where
   -- the tables before the first cut
-  pub closing-start : (forms : List (List (ℕ × (ℕ → Value f)))) (places elements : List ℕ) → HoldsSingles f.laws act forms places elements act.group.order → IsClosing f.laws act forms places elements [] [] []
+  pub closing-start : (forms : List (List (ℕ × (ℕ → Value f)))) (places elements : List ℕ) → HoldsSingles f.laws act forms places elements act.group.order → IsClosing f.laws act forms places elements [] []
   closing-start forms places elements h =
       let e = h.elements_length in
       record {
@@ -60,10 +48,9 @@ module _ (f : ExactField) (act : Action) where
         element = h.element;
         places_length = h.places_length;
         place = λ q l. let o = h.place q l in let ol = o.0 in (omega arith, o.1);
-        once = λ s t g l. absurd (omega arith);
-        pair = λ t l. absurd (omega arith);
-        cuts_length = refl;
-        cut = λ t l. absurd (omega arith);
+        rows = omega arith;
+        short = λ i. omega arith;
+        cut = λ i k d e. let z : 0 ≡ suc d = e in absurd (omega arith);
         sources_length = omega arith;
         source = λ i l. absurd (omega arith);
       }
@@ -75,9 +62,9 @@ module _ (f : ExactField) (act : Action) where
       (subst (λ (e : List (ℕ × (ℕ → Value f))). IsMeet f.laws act.dim (form_at old i) e (form_at new p)) (sym (c.1.1.1.grown.first k kl))
       (subst (IsMeet f.laws act.dim (form_at old i) (form_at old k)) (sym c.1.1.1.there) c.1.1.0))
 
-  module _ (old new : List (List (ℕ × (ℕ → Value f)))) (places elements : List ℕ) (pairs : List (ℕ × ℕ)) (cuts : List ℕ) (sources named : List (ℕ × ℕ)) (i k p : ℕ)
-      (t : IsClosing f.laws act old places elements pairs cuts sources) (il : i < length old) (kl : k < length elements)
-      (fresh : (s : ℕ) → s < length pairs → get_or pairs s (0, 0) ≡ (i, k) → ⊥) (c : IsCutAt f.laws act old i k new p) (n : IsNoted (length old) (length new) (i, k) sources named) where
+  module _ (old new : List (List (ℕ × (ℕ → Value f)))) (places elements : List ℕ) (cuts written : List (List ℕ)) (sources named : List (ℕ × ℕ)) (i k p : ℕ)
+      (t : IsClosing f.laws act old places elements cuts sources) (il : i < length old) (kl : k < length elements)
+      (note : IsCutNoted cuts i k (suc p) written) (rows : length written ≤ length new) (short : AreShort (length elements) written) (c : IsCutAt f.laws act old i k new p) (n : IsNoted (length old) (length new) (i, k) sources named) where
     one : IsSingleSpace f.laws act (form_at old k)
     one = let o = t.element k kl in (get_or elements k 0, o)
 
@@ -85,32 +72,34 @@ module _ (f : ExactField) (act : Action) where
     new-meet : IsMeet f.laws act.dim (form_at new i) (form_at new k) (form_at new p)
     new-meet = let within = t.within in cut-meet old new i k p il (omega arith) c
 
-    old-cut : (s : ℕ) → s < length pairs → (get_or cuts s 0 < length new) × IsMeet f.laws act.dim (form_at new (get_or pairs s (0, 0)).0) (form_at new (get_or pairs s (0, 0)).1) (form_at new (get_or cuts s 0))
-    old-cut s l =
+    old-cut : (a b d : ℕ) → cut_entry cuts a b ≡ suc d → (d < length new) × IsMeet f.laws act.dim (form_at new a) (form_at new b) (form_at new d)
+    old-cut a b d e =
+        let o = t.cut a b d e in
+        let ol = o.0 in
+        let inside = entry-inside cuts a b d e in
+        let al = inside.0 in
+        let bl = inside.1 in
+        let few = t.rows in
+        let width = t.short a in
         let within = t.within in
         let longer = c.1.1.1.grown.longer in
-        let o = t.cut s l in
-        let ol = o.0 in
-        let a = t.pair s l in
-        let al = a.1 in
-        let bl : (get_or pairs s (0, 0)).1 < length old = omega arith in
-        (omega arith, grown-meet f act old new c.1.1.1.grown (get_or pairs s (0, 0)).0 (get_or pairs s (0, 0)).1 (get_or cuts s 0) a.0 bl ol o.1)
+        let a_old : a < length old = omega arith in
+        let b_old : b < length old = omega arith in
+        (omega arith, grown-meet f act old new c.1.1.1.grown a b d a_old b_old ol o.1)
 
-    new-cut : (s : ℕ) → s < length (pairs ++ (i, k) ∷ []) → (get_or (cuts ++ p ∷ []) s 0 < length new) × IsMeet f.laws act.dim (form_at new (get_or (pairs ++ (i, k) ∷ []) s (0, 0)).0) (form_at new (get_or (pairs ++ (i, k) ∷ []) s (0, 0)).1) (form_at new (get_or (cuts ++ p ∷ []) s 0))
-    new-cut s l =
-        let e = length-last pairs (i, k) in
-        let m : s < suc (length pairs) = omega arith in
-        let cl = t.cuts_length in
-        elim (lower s (length pairs) m) [
-          | inl b ↦
-              let cb : s < length cuts = omega arith in
-              subst (λ (z : ℕ). (z < length new) × IsMeet f.laws act.dim (form_at new (get_or (pairs ++ (i, k) ∷ []) s (0, 0)).0) (form_at new (get_or (pairs ++ (i, k) ∷ []) s (0, 0)).1) (form_at new z)) (sym (get_or-front cuts p 0 s cb))
-              (subst (λ (z : ℕ × ℕ). (get_or cuts s 0 < length new) × IsMeet f.laws act.dim (form_at new z.0) (form_at new z.1) (form_at new (get_or cuts s 0))) (sym (get_or-front pairs (i, k) (0, 0) s b)) (old-cut s b))
-          | inr d ↦
-              let at_cut : get_or (cuts ++ p ∷ []) s 0 ≡ p = ap (λ z. get_or (cuts ++ p ∷ []) z 0) (d ∙ sym cl) ∙ get_or-last cuts p 0 in
-              let at_pair : get_or (pairs ++ (i, k) ∷ []) s (0, 0) ≡ (i, k) = ap (λ z. get_or (pairs ++ (i, k) ∷ []) z (0, 0)) d ∙ get_or-last pairs (i, k) (0, 0) in
-              subst (λ (z : ℕ). (z < length new) × IsMeet f.laws act.dim (form_at new (get_or (pairs ++ (i, k) ∷ []) s (0, 0)).0) (form_at new (get_or (pairs ++ (i, k) ∷ []) s (0, 0)).1) (form_at new z)) (sym at_cut)
-              (subst (λ (z : ℕ × ℕ). (p < length new) × IsMeet f.laws act.dim (form_at new z.0) (form_at new z.1) (form_at new p)) (sym at_pair) (c.1.1.1.inside, new-meet))
+    new-cut : (a b d : ℕ) → cut_entry written a b ≡ suc d → (d < length new) × IsMeet f.laws act.dim (form_at new a) (form_at new b) (form_at new d)
+    new-cut a b d e =
+        elim (same a i) [
+          | inr n ↦ old-cut a b d (sym (note.other a b (λ h. n h.0)) ∙ e)
+          | inl x ↦ elim (same b k) [
+            | inr n ↦ old-cut a b d (sym (note.other a b (λ h. n h.1)) ∙ e)
+            | inl y ↦
+                let z : suc p ≡ suc d = sym note.own ∙ (λ s. cut_entry written (sym x s) (sym y s)) ∙ e in
+                let q : p ≡ d = omega arith in
+                subst (λ (w : ℕ). (w < length new) × IsMeet f.laws act.dim (form_at new a) (form_at new b) (form_at new w)) q
+                (subst (λ (u : ℕ). (p < length new) × IsMeet f.laws act.dim (form_at new u) (form_at new b) (form_at new p)) (sym x)
+                (subst (λ (u : ℕ). (p < length new) × IsMeet f.laws act.dim (form_at new i) (form_at new u) (form_at new p)) (sym y) (c.1.1.1.inside, new-meet)))
+          ]
         ]
 
     IsSource : ℕ → ℕ × ℕ → Type 0
@@ -130,7 +119,7 @@ module _ (f : ExactField) (act : Action) where
         (a, (b, grown-meet f act old new c.1.1.1.grown (get_or sources j (0, 0)).0 (get_or sources j (0, 0)).1 (length elements + j) al bl jl o.1.1))
 
     -- the tables after one more cut
-    pub closing-cut : IsClosing f.laws act new places elements (pairs ++ (i, k) ∷ []) (cuts ++ p ∷ []) named
+    pub closing-cut : IsClosing f.laws act new places elements written named
     unfolding IsSource
     closing-cut =
         let put = c.1.1.1 in
@@ -143,9 +132,8 @@ module _ (f : ExactField) (act : Action) where
           element = λ j l. let m : j < length old = omega arith in let o = t.element j l in (o.0, grown-at f act (IsFixForm f.laws act (get_or elements j 0 ∷ [])) old new put.grown j m o.1);
           places_length = t.places_length;
           place = λ q l. let o = t.place q l in let ol = o.0 in let m : get_or places q 0 < length old = omega arith in (ol, grown-at f act (IsFixForm f.laws act (q ∷ [])) old new put.grown (get_or places q 0) m o.1);
-          once = once-last pairs (i, k) t.once fresh;
-          pair = each-last (λ s z. (z.0 < length new) × (z.1 < length elements)) pairs (i, k) (0, 0) (λ s l. let o = t.pair s l in let ol = o.0 in (omega arith, o.1)) (omega arith, kl);
-          cuts_length = length-last cuts p ∙ ap suc t.cuts_length ∙ sym (length-last pairs (i, k));
+          rows = rows;
+          short = short;
           cut = new-cut;
           sources_length = elim n [
             | inl s ↦ ap (λ z. length elements + length z) s.1 ∙ sl ∙ sym s.0
@@ -170,11 +158,11 @@ module _ (f : ExactField) (act : Action) where
 
 module _ (f : ExactField) (act : Action) (law : IsAction f.laws act) where
   -- the place of the image of a Fix(q)
-  pub closing-conjugate : (forms : List (List (ℕ × (ℕ → Value f)))) (places elements : List ℕ) (pairs : List (ℕ × ℕ)) (cuts : List ℕ) (sources : List (ℕ × ℕ)) →
-      IsClosing f.laws act forms places elements pairs cuts sources → (a k : ℕ) → a < act.group.order → k < length elements →
+  pub closing-conjugate : (forms : List (List (ℕ × (ℕ → Value f)))) (places elements : List ℕ) (cuts : List (List ℕ)) (sources : List (ℕ × ℕ)) →
+      IsClosing f.laws act forms places elements cuts sources → (a k : ℕ) → a < act.group.order → k < length elements →
       (get_or places (conjugate (moves_of f.laws act) a (get_or elements k 0)) 0 < length elements)
       × IsImageForm f.laws act a (form_at forms k) (form_at forms (get_or places (conjugate (moves_of f.laws act) a (get_or elements k 0)) 0))
-  closing-conjugate forms places elements pairs cuts sources t a k al kl =
+  closing-conjugate forms places elements cuts sources t a k al kl =
       let e = t.element k kl in
       let q : ℕ = get_or elements k 0 in
       let b : ℕ = conjugate (moves_of f.laws act) a q in
@@ -191,10 +179,10 @@ module _ (f : ExactField) (act : Action) (law : IsAction f.laws act) where
       (r.0, act.group.product b r.1, (r.2.0, (law.group.product_below b r.1 bl r.2.1.0, (r.2.1.1.0, image-after f act law b r.1 (form_at forms r.0) (form_at forms i) (form_at forms y) bl r.2.1.0 r.2.1.1.1 h))))
 
   -- the tables at the end
-  pub closing-classes : (forms : List (List (ℕ × (ℕ → Value f)))) (places elements : List ℕ) (pairs : List (ℕ × ℕ)) (cuts : List ℕ) (sources : List (ℕ × ℕ)) (images : List (List ℕ)) →
-      IsClosing f.laws act forms places elements pairs cuts sources → AreImages f.laws act forms images → length images ≡ length forms →
+  pub closing-classes : (forms : List (List (ℕ × (ℕ → Value f)))) (places elements : List ℕ) (cuts : List (List ℕ)) (sources : List (ℕ × ℕ)) (images : List (List ℕ)) →
+      IsClosing f.laws act forms places elements cuts sources → AreImages f.laws act forms images → length images ≡ length forms →
       ((i : ℕ) → i < length forms → IsReached f.laws act forms i) → IsClassClosed f.laws act forms
-  closing-classes forms places elements pairs cuts sources images t a n r =
+  closing-classes forms places elements cuts sources images t a n r =
       let first = t.place 0 law.group.identity_below in
       let l = first.0 in
       let within = t.within in
@@ -207,9 +195,9 @@ module _ (f : ExactField) (act : Action) (law : IsAction f.laws act) where
 
 module _ (f : ExactField) (act : Action) where
   -- a form that is cut with the Fix(q) of each place is cut with each
-  pub closing-each : (forms : List (List (ℕ × (ℕ → Value f)))) (places elements : List ℕ) (pairs : List (ℕ × ℕ)) (cuts : List ℕ) (sources : List (ℕ × ℕ)) (j : ℕ) →
-      IsClosing f.laws act forms places elements pairs cuts sources → ((k : ℕ) → k < length elements → HasMeet f.laws act.dim forms (form_at forms j) (form_at forms k)) → IsCutWithEach f.laws act forms j
-  closing-each forms places elements pairs cuts sources j t c q l =
+  pub closing-each : (forms : List (List (ℕ × (ℕ → Value f)))) (places elements : List ℕ) (cuts : List (List ℕ)) (sources : List (ℕ × ℕ)) (j : ℕ) →
+      IsClosing f.laws act forms places elements cuts sources → ((k : ℕ) → k < length elements → HasMeet f.laws act.dim forms (form_at forms j) (form_at forms k)) → IsCutWithEach f.laws act forms j
+  closing-each forms places elements cuts sources j t c q l =
       let o = t.place q l in
       let k : ℕ = get_or places q 0 in
       let m = c k o.0 in (
@@ -224,16 +212,12 @@ module _ (f : ExactField) (act : Action) where
         ),
       )
 
-  pub grown-image : (old new : List (List (ℕ × (ℕ → Value f)))) → IsGrown old new → (a i j : ℕ) → i < length old → j < length old → IsImageForm f.laws act a (form_at old i) (form_at old j) → IsImageForm f.laws act a (form_at new i) (form_at new j)
-  grown-image old new t a i j il jl h =
-      subst (λ (u : List (ℕ × (ℕ → Value f))). IsImageForm f.laws act a u (form_at new j)) (sym (t.first i il)) (subst (IsImageForm f.laws act a (form_at old i)) (sym (t.first j jl)) h)
-
   -- the image of a form is the cut of the images of the two whose cut it is
-  pub closing-image : IsAction f.laws act → (old new : List (List (ℕ × (ℕ → Value f)))) (places elements : List ℕ) (pairs : List (ℕ × ℕ)) (cuts : List ℕ) (sources : List (ℕ × ℕ)) →
-      IsClosing f.laws act old places elements pairs cuts sources → IsGrown old new → (a j at fix y : ℕ) (s : ℕ × ℕ) → j < length sources → s ≡ get_or sources j (0, 0) → at < length old → fix < length elements →
+  pub closing-image : IsAction f.laws act → (old new : List (List (ℕ × (ℕ → Value f)))) (places elements : List ℕ) (cuts : List (List ℕ)) (sources : List (ℕ × ℕ)) →
+      IsClosing f.laws act old places elements cuts sources → IsGrown old new → (a j at fix y : ℕ) (s : ℕ × ℕ) → j < length sources → s ≡ get_or sources j (0, 0) → at < length old → fix < length elements →
       IsImageForm f.laws act a (form_at old s.0) (form_at old at) → IsImageForm f.laws act a (form_at old s.1) (form_at old fix) →
       IsMeet f.laws act.dim (form_at new at) (form_at new fix) (form_at new y) → IsImageForm f.laws act a (form_at new (length elements + j)) (form_at new y)
-  closing-image law old new places elements pairs cuts sources t grown a j at fix y s jl e atl fixl iu ie m =
+  closing-image law old new places elements cuts sources t grown a j at fix y s jl e atl fixl iu ie m =
       let o = subst (λ (z : ℕ × ℕ). (z.0 < length elements + j) × ((z.1 < length elements) × IsMeet f.laws act.dim (form_at old z.0) (form_at old z.1) (form_at old (length elements + j)))) (sym e) (t.source j jl) in
       let within = t.within in
       let n = t.sources_length in
@@ -245,7 +229,7 @@ module _ (f : ExactField) (act : Action) where
       let lf : fix < length old = omega arith in
       image-meet f act law a (form_at new s.0) (form_at new s.1) (form_at new (length elements + j)) (form_at new at) (form_at new fix) (form_at new y)
       (grown-meet f act old new grown s.0 s.1 (length elements + j) l0 l1 li o.1.1) m
-      (grown-image old new grown a s.0 at l0 atl iu) (grown-image old new grown a s.1 fix l1 lf ie)
+      (grown-image f act old new grown a s.0 at l0 atl iu) (grown-image f act old new grown a s.1 fix l1 lf ie)
 
   -- cuts stay
   pub grown-cuts : (old new : List (List (ℕ × (ℕ → Value f)))) → IsGrown old new → (fixes j n : ℕ) → fixes ≤ length old → j < length old →
@@ -276,7 +260,7 @@ module _ (f : ExactField) (act : Action) where
   reached-grown old new t i il r =
       let jl = r.2.0 in
       let longer = t.longer in
-      (r.0, r.1, (omega arith, (r.2.1.0, (grown-each old new t r.0 jl r.2.1.1.0, grown-image old new t r.1 r.0 i jl il r.2.1.1.1))))
+      (r.0, r.1, (omega arith, (r.2.1.0, (grown-each old new t r.0 jl r.2.1.1.0, grown-image f act old new t r.1 r.0 i jl il r.2.1.1.1))))
 
   -- marked forms stay so
   pub covered-grown : (old new : List (List (ℕ × (ℕ → Value f)))) (covered : List Bool) → IsGrown old new → AreCovered f.laws act old covered → AreCovered f.laws act new covered
@@ -285,47 +269,3 @@ module _ (f : ExactField) (act : Action) where
       let l = o.0 in
       let longer = t.longer in
       (omega arith, reached-grown old new t i l o.1)
-
-  -- images stay so
-  pub row-grown : (old new : List (List (ℕ × (ℕ → Value f)))) (i n : ℕ) (found : List ℕ) → IsGrown old new → i < length old → IsImageRow f.laws act old i n found → IsImageRow f.laws act new i n found
-  row-grown old new i n found t il r = record {
-    size = r.size;
-    image = λ p l.
-        let o = r.image p l in
-        let ol = o.0 in
-        let longer = t.longer in
-        (omega arith, grown-image old new t (act.generator p) i (get_or found p 0) il ol o.1);
-  }
-
-  pub images-grown : (old new : List (List (ℕ × (ℕ → Value f)))) (images : List (List ℕ)) → IsGrown old new → length images ≤ length old → AreImages f.laws act old images → AreImages f.laws act new images
-  images-grown old new images t short a i l = let il : i < length old = omega arith in row-grown old new i act.generators (get_or images i []) t il (a i l)
-
-  -- one more image
-  pub row-more : (forms : List (List (ℕ × (ℕ → Value f)))) (i n y : ℕ) (found : List ℕ) → IsImageRow f.laws act forms i n found → y < length forms → IsImageForm f.laws act (act.generator n) (form_at forms i) (form_at forms y) →
-      IsImageRow f.laws act forms i (suc n) (found ++ y ∷ [])
-  row-more forms i n y found r l h =
-      let size = r.size in
-      record {
-        size = length-last found y ∙ ap suc size;
-        image = λ p m.
-            let pl : p < length (found ++ y ∷ []) = let n = length-last found y in omega arith in
-            each-last (λ p z. (z < length forms) × IsImageForm f.laws act (act.generator p) (form_at forms i) (form_at forms z)) found y 0
-            (λ p k. let pn : p < n = omega arith in r.image p pn)
-            (l, subst (λ (z : ℕ). IsImageForm f.laws act (act.generator z) (form_at forms i) (form_at forms y)) (sym size) h) p pl;
-      }
-
-  -- one more row
-  pub images-more : (forms : List (List (ℕ × (ℕ → Value f)))) (images : List (List ℕ)) (found : List ℕ) → AreImages f.laws act forms images → IsImageRow f.laws act forms (length images) act.generators found → AreImages f.laws act forms (images ++ found ∷ [])
-  images-more forms images found a r = each-last (λ i z. IsImageRow f.laws act forms i act.generators z) images found [] a r
-
-  -- one more mark
-  pub covered-more : (forms : List (List (ℕ × (ℕ → Value f)))) (covered : List Bool) (y : ℕ) → AreCovered f.laws act forms covered → y < length forms → IsReached f.laws act forms y → AreCovered f.laws act forms (set covered y true)
-  covered-more forms covered y c l r i h =
-      elim (same i y) [
-        | inl e ↦ (subst (λ (z : ℕ). z < length forms) (sym e) l, subst (IsReached f.laws act forms) (sym e) r)
-        | inr n ↦ c i (sym (get_or-set_other covered y i true false n) ∙ h)
-      ]
-
-  -- one more place
-  pub queue-more : (forms : List (List (ℕ × (ℕ → Value f)))) (queue : List ℕ) (y : ℕ) → AreReached f.laws act forms queue → y < length forms → IsReached f.laws act forms y → AreReached f.laws act forms (queue ++ y ∷ [])
-  queue-more forms queue y a l r = each-last (λ t z. (z < length forms) × IsReached f.laws act forms z) queue y 0 a (l, r)

@@ -1,23 +1,18 @@
 -- How many forms are held.
-use Rattle.std.proofs.Common.{◌≡◌, ◌↔◌, ℕ, sym, ◌∙◌, subst, ◌+◌, Option, Some, None, ◌<◌, ◌≤◌, ◌⊎◌, inl, inr, Bool, true, List, [], ◌∷◌, ◌++◌, arith, length, get_or}
+use Rattle.std.proofs.Common.{◌≡◌, ◌↔◌, ℕ, sym, ◌∙◌, subst, ◌+◌, ◌<◌, ◌≤◌, ◌⊎◌, inl, inr, Bool, true, List, [], arith, length, get_or}
 use Rattle.cyclo24.specs.ExactField.{ExactField, Value}
 use Rattle.lin_alg.specs.Action.{Action}
 use Rattle.lin_alg.specs.Echelon.{EchelonView}
 use Rattle.fix_lattice.specs.Lattice.{form_at, AreMoreFixes, AreMoreSingles}
 use Rattle.fix_lattice.specs.Held.{IsFixSpace, IsSingleSpace, HoldsSingles}
 use Rattle.fix_lattice.proofs.HeldLemmas.{forms-more, forms-few, singles-few, singles-only}
-use Rattle.fix_lattice.specs.Classes.{IsClosing, IsKnown, IsImageForm, AreImages, AreFewPairs}
-use Rattle.fix_lattice.proofs.ClosingLemmas.{pairs-bound, once-last}
+use Rattle.fix_lattice.specs.Classes.{IsClosing, IsImageForm, AreImages}
+use Rattle.fix_lattice.specs.Cuts.{AreShort, AreFewCuts}
+use Rattle.fix_lattice.proofs.ClosingLemmas.{cuts-bound}
 use Rattle.fix_lattice.specs.Subspaces.{AreHeld, exact_forms}
 use Rattle.fix_lattice.proofs.FormLemmas.{held-once}
 use Rattle.fix_lattice.specs.FormLaws.{exact-length}
-use Rattle.fix_lattice.proofs.ListLemmas.{each-last, same-default}
-
-pub known-some : (old new : List (ℕ × ℕ)) (pair : ℕ × ℕ) (r : Option ℕ) (t : ℕ) → r ≡ Some t → IsKnown old new pair r → (new ≡ old) × ((t < length old) × (get_or old t (0, 0) ≡ pair))
-known-some old new pair r t e h = subst (IsKnown old new pair) e h
-
-pub known-none : (old new : List (ℕ × ℕ)) (pair : ℕ × ℕ) (r : Option ℕ) → r ≡ None → IsKnown old new pair r → (new ≡ old ++ pair ∷ []) × ((t : ℕ) → t < length old → get_or old t (0, 0) ≡ pair → ⊥)
-known-none old new pair r e h = subst (IsKnown old new pair) e h
+use Rattle.fix_lattice.proofs.ListLemmas.{same-default}
 
 module _ {A : Type 0} (f : ExactField) (value : A → Value f) (E : A → A → Bool) (tells : (x y : A) → (E x y ≡ true) ↔ (value x ≡ value y)) (act : Action) where
   -- held fixed subspaces past a limit
@@ -46,30 +41,28 @@ module _ {A : Type 0} (f : ExactField) (value : A → Value f) (E : A → A → 
       let e = exact-length f.laws value es in
       held-singles-few w (length es) d es h (omega arith) (λ k l. let m : k < length (exact_forms f.laws value es) = omega arith in singles-only f act (exact_forms f.laws value es) places elements act.group.order t k m) few
 
-  module _ (w limit : ℕ) (es : List (EchelonView A)) (places elements : List ℕ) (pairs : List (ℕ × ℕ)) (cuts : List ℕ) (sources : List (ℕ × ℕ))
-      (h : AreHeld f.laws value E w es) (t : IsClosing f.laws act (exact_forms f.laws value es) places elements pairs cuts sources) (within : length es ≤ limit) where
+  module _ (w limit : ℕ) (es : List (EchelonView A)) (places elements : List ℕ) (cuts : List (List ℕ)) (sources : List (ℕ × ℕ))
+      (h : AreHeld f.laws value E w es) (t : IsClosing f.laws act (exact_forms f.laws value es) places elements cuts sources) (within : length es ≤ limit) where
     forms-below : (n : ℕ) → ((AreMoreFixes f.laws act n → ⊥) ⊎ (limit ≤ n)) → length (exact_forms f.laws value es) ≤ n
     forms-below n few =
         let e = exact-length f.laws value es in
         let l : length es ≤ n = elim few [ inl b ↦ held-few w n es h t.only b | inr b ↦ omega arith ] in
         omega arith
 
-    -- the pairs are few
-    pub pairs-now : AreFewPairs f.laws act limit (length elements) pairs
-    pairs-now n few = pairs-bound pairs (length (exact_forms f.laws value es)) n (length elements) (forms-below n few) t.pair t.once
+    -- the cuts are few
+    pub cuts-now : AreFewCuts f.laws act limit (length elements) cuts
+    cuts-now n few = cuts-bound cuts (length (exact_forms f.laws value es)) n (length elements) (forms-below n few) t.rows t.short
 
-    -- and with one more
-    pub pairs-next : (i k : ℕ) → i < length es → k < length elements → ((s : ℕ) → s < length pairs → get_or pairs s (0, 0) ≡ (i, k) → ⊥) → AreFewPairs f.laws act limit (length elements) (pairs ++ (i, k) ∷ [])
-    pairs-next i k il kl fresh n few =
+    -- and with those of other rows, no more than forms
+    pub cuts-next : (written : List (List ℕ)) → AreShort (length elements) written → length written ≤ length es → AreFewCuts f.laws act limit (length elements) written
+    cuts-next written short l n few =
         let e = exact-length f.laws value es in
-        pairs-bound (pairs ++ (i, k) ∷ []) (length (exact_forms f.laws value es)) n (length elements) (forms-below n few)
-        (each-last (λ s z. (z.0 < length (exact_forms f.laws value es)) × (z.1 < length elements)) pairs (i, k) (0, 0) t.pair (omega arith, kl))
-        (once-last pairs (i, k) t.once fresh)
+        cuts-bound written (length (exact_forms f.laws value es)) n (length elements) (forms-below n few) (omega arith) short
 
 -- the two whose cut a form is stand before it
-pub source-read : (f : ExactField) (act : Action) (forms : List (List (ℕ × (ℕ → Value f)))) (places elements : List ℕ) (pairs : List (ℕ × ℕ)) (cuts : List ℕ) (sources : List (ℕ × ℕ)) →
-    IsClosing f.laws act forms places elements pairs cuts sources → (j : ℕ) (s : ℕ × ℕ) → j < length sources → s ≡ get_or sources j s → (s ≡ get_or sources j (0, 0)) × ((s.0 < length elements + j) × (s.1 < length elements))
-source-read f act forms places elements pairs cuts sources t j s l e =
+pub source-read : (f : ExactField) (act : Action) (forms : List (List (ℕ × (ℕ → Value f)))) (places elements : List ℕ) (cuts : List (List ℕ)) (sources : List (ℕ × ℕ)) →
+    IsClosing f.laws act forms places elements cuts sources → (j : ℕ) (s : ℕ × ℕ) → j < length sources → s ≡ get_or sources j s → (s ≡ get_or sources j (0, 0)) × ((s.0 < length elements + j) × (s.1 < length elements))
+source-read f act forms places elements cuts sources t j s l e =
     let d : s ≡ get_or sources j (0, 0) = e ∙ same-default sources j s (0, 0) l in
     let o = t.source j l in
     (d, subst (λ (z : ℕ × ℕ). (z.0 < length elements + j) × (z.1 < length elements)) (sym d) (o.0, o.1.0))

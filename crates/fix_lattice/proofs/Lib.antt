@@ -1,10 +1,11 @@
 mod ListLemmas
-mod PairLemmas
+mod CutRowLemmas
 mod FormLemmas
 mod InsertLemmas
 mod MoverLemmas
 mod HeldLemmas
 mod ClassLemmas
+mod ImageRowLemmas
 mod ClosingLemmas
 mod CutLemmas
 mod CountLemmas

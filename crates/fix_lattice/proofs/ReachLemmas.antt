@@ -56,3 +56,8 @@ module _ (f : ExactField) (act : Action) (law : IsAction f.laws act) (forms : Li
   -- the places of a row are places of forms
   pub row-inside : (i : ℕ) → i < length images → (p : ℕ) → p < length (get_or images i []) → get_or (get_or images i []) p 0 < length forms
   row-inside i il p l = let row = a i il in (row.image p (subst (λ (z : ℕ). p < z) row.size l)).0
+
+module _ (f : ExactField) (act : Action) where
+  -- one more place that is reached
+  pub queue-more : (forms : List (List (ℕ × (ℕ → Value f)))) (queue : List ℕ) (y : ℕ) → AreReached f.laws act forms queue → y < length forms → IsReached f.laws act forms y → AreReached f.laws act forms (queue ++ y ∷ [])
+  queue-more forms queue y a l r = each-last (λ t z. (z < length forms) × IsReached f.laws act forms z) queue y 0 a (l, r)

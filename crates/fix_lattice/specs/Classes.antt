@@ -4,11 +4,10 @@
 -- IsCutWithEach f act forms j: the form at j is cut with each Fix(q)
 -- IsReached f act forms i: the form at i is the image of such a form
 -- IsClassClosed f act forms: a list with the whole space, kept by the generators, each form of it reached
--- IsClosing f act forms places elements pairs cuts sources: the tables of the work: which pairs were cut, where each
---     cut stands, and of which pair each form is the cut
+-- IsClosing f act forms places elements cuts sources: the tables of the work: where each cut stands, and of which two
+--     each form is the cut
 -- AreImages f act forms images: the places of the images of the first forms under the generators
--- AreFewPairs f act limit fixes pairs: no more pairs than forms times Fix(q)
-use Rattle.std.specs.Prelude.{◌≡◌, ◌↔◌, ℕ, ℤ, ◌<◌, ◌≤◌, ◌+◌, ◌*◌, ◌⊎◌, Bool, true, false, List, [], ◌∷◌, ◌++◌, Option, MatchOption, length, get_or}
+use Rattle.std.specs.Prelude.{◌≡◌, ◌↔◌, ℕ, suc, ℤ, ◌<◌, ◌≤◌, ◌+◌, Bool, true, false, List, [], ◌∷◌, length, get_or}
 use Rattle.cyclo24.specs.FieldOn.{FieldOn}
 use Rattle.cyclo24.specs.ExactField.{Exact}
 use Rattle.lin_alg.specs.Action.{Action, IsFixed}
@@ -16,8 +15,9 @@ use Rattle.lin_alg.specs.Fixed.{IsFixForm}
 use Rattle.lin_alg.specs.Images.{moves_of}
 use Rattle.lin_alg.specs.Moves.{moved}
 use Rattle.lin_alg.specs.Spans.{AreSame}
-use Rattle.fix_lattice.specs.Lattice.{IsInSpace, form_at, AreMoreFixes}
+use Rattle.fix_lattice.specs.Lattice.{IsInSpace, form_at}
 use Rattle.fix_lattice.specs.Held.{IsFixSpace, IsMeet}
+use Rattle.fix_lattice.specs.Cuts.{cut_entry, AreShort}
 
 -- x vanishes exactly on the image under a of what u vanishes on
 abbrev pub IsImageForm : {valid : List ℤ → Bool} → FieldOn (Exact valid) → Action → ℕ → List (ℕ × (ℕ → Exact valid)) → List (ℕ × (ℕ → Exact valid)) → Type 0
@@ -45,17 +45,16 @@ pub record IsClassClosed {valid : List ℤ → Bool} (f : FieldOn (Exact valid))
   pub kept : (i p : ℕ) → i < length forms → p < act.generators → HasImage f act forms (act.generator p) (form_at forms i)
   pub reached : (i : ℕ) → i < length forms → IsReached f act forms i
 
--- the tables of the work. The first forms are the equations of each Fix(q); each pair of a form and one of these was cut once, and the cut of pair t stands at cuts t; the form i behind the first is the cut of sources i
-pub record IsClosing {valid : List ℤ → Bool} (f : FieldOn (Exact valid)) (act : Action) (forms : List (List (ℕ × (ℕ → Exact valid)))) (places elements : List ℕ) (pairs : List (ℕ × ℕ)) (cuts : List ℕ) (sources : List (ℕ × ℕ)) : Type 0 where
+-- the tables of the work. The first forms are the equations of each Fix(q); an entry of cuts is one more than the place of the cut of a form and one of these; the form i behind the first is the cut of sources i
+pub record IsClosing {valid : List ℤ → Bool} (f : FieldOn (Exact valid)) (act : Action) (forms : List (List (ℕ × (ℕ → Exact valid)))) (places elements : List ℕ) (cuts : List (List ℕ)) (sources : List (ℕ × ℕ)) : Type 0 where
   pub only : (i : ℕ) → i < length forms → IsFixSpace f act (form_at forms i)
   pub within : length elements ≤ length forms
   pub element : (k : ℕ) → k < length elements → (get_or elements k 0 < act.group.order) × IsFixForm f act (get_or elements k 0 ∷ []) (form_at forms k)
   pub places_length : length places ≡ act.group.order
   pub place : (q : ℕ) → q < act.group.order → (get_or places q 0 < length elements) × IsFixForm f act (q ∷ []) (form_at forms (get_or places q 0))
-  pub once : (s t : ℕ) → s < t → t < length pairs → get_or pairs s (0, 0) ≡ get_or pairs t (0, 0) → ⊥
-  pub pair : (t : ℕ) → t < length pairs → ((get_or pairs t (0, 0)).0 < length forms) × ((get_or pairs t (0, 0)).1 < length elements)
-  pub cuts_length : length cuts ≡ length pairs
-  pub cut : (t : ℕ) → t < length pairs → (get_or cuts t 0 < length forms) × IsMeet f act.dim (form_at forms (get_or pairs t (0, 0)).0) (form_at forms (get_or pairs t (0, 0)).1) (form_at forms (get_or cuts t 0))
+  pub rows : length cuts ≤ length forms
+  pub short : AreShort (length elements) cuts
+  pub cut : (i k d : ℕ) → cut_entry cuts i k ≡ suc d → (d < length forms) × IsMeet f act.dim (form_at forms i) (form_at forms k) (form_at forms d)
   pub sources_length : length elements + length sources ≡ length forms
   pub source : (i : ℕ) → i < length sources → ((get_or sources i (0, 0)).0 < length elements + i) × (((get_or sources i (0, 0)).1 < length elements)
       × IsMeet f act.dim (form_at forms (get_or sources i (0, 0)).0) (form_at forms (get_or sources i (0, 0)).1) (form_at forms (length elements + i)))
@@ -68,16 +67,6 @@ pub record IsImageRow {valid : List ℤ → Bool} (f : FieldOn (Exact valid)) (a
 -- row i of the table holds the places of the images of form i under the generators
 abbrev pub AreImages : {valid : List ℤ → Bool} → FieldOn (Exact valid) → Action → List (List (ℕ × (ℕ → Exact valid))) → List (List ℕ) → Type 0
 AreImages f act forms images = (i : ℕ) → i < length images → IsImageRow f act forms i act.generators (get_or images i [])
-
--- a pair was known, at its place, or was noted last
-abbrev pub IsKnown : List (ℕ × ℕ) → List (ℕ × ℕ) → ℕ × ℕ → Option ℕ → Type 0
-IsKnown old new pair r =
-    MatchOption r ((new ≡ old ++ pair ∷ []) × ((t : ℕ) → t < length old → get_or old t (0, 0) ≡ pair → ⊥))
-    (λ t. (new ≡ old) × ((t < length old) × (get_or old t (0, 0) ≡ pair)))
-
--- there are no more pairs than forms times Fix(q), for each bound on the forms
-abbrev pub AreFewPairs : {valid : List ℤ → Bool} → FieldOn (Exact valid) → Action → ℕ → ℕ → List (ℕ × ℕ) → Type 0
-AreFewPairs f act limit fixes pairs = (n : ℕ) → ((AreMoreFixes f act n → ⊥) ⊎ (limit ≤ n)) → length pairs ≤ n * fixes
 
 -- x is one of the list
 abbrev pub IsOf : List ℕ → ℕ → Type 0

@@ -5,7 +5,8 @@ ghost use Rattle.lin_alg.specs.Action.{Action};
 ghost use Rattle.fix_lattice.specs.declared.errors.CloseError.TheVariants as close_error;
 ghost use Rattle.fix_lattice.specs.Subspaces.{AreHeld, exact_forms};
 ghost use Rattle.fix_lattice.specs.Held.{IsGrown};
-ghost use Rattle.fix_lattice.specs.Classes.{IsClosing, IsClassClosed, IsReached, AreImages, AreCovered, AreFewPairs};
+ghost use Rattle.fix_lattice.specs.Cuts.{cut_count, AreFewCuts};
+ghost use Rattle.fix_lattice.specs.Classes.{IsClosing, IsClassClosed, IsReached, AreImages, AreCovered};
 ghost use Rattle.fix_lattice.specs.Lattice.{HoldsFixes, AreMoreFixes, AreMoreSingles, HasEachStabiliser, AreStabilisers};
 ghost use Rattle.fix_lattice.specs.Wide.{IsWideFixes};
 
@@ -13,7 +14,7 @@ use crate::classes::reach;
 use crate::images::{close_images, row_in};
 use crate::memory::push;
 use crate::singles::{Singles, hold_singles};
-use crate::tables::{Tables, cut_each};
+use crate::tables::{Given, Tables, cut_each};
 use crate::{CloseError, Form, Subspaces};
 use cyclo24::Field;
 use indexmap::IndexSet;
@@ -52,7 +53,6 @@ pub fn close<F: Field, G: Acts<F>, L: Ledger>(
     let mut row = zeros(alloc, dim)?;
     let mut tables = Tables {
         held: IndexSet::new(alloc),
-        pairs: IndexSet::new(alloc),
         cuts: Vec::new(alloc),
         sources: Vec::new(alloc),
     };
@@ -69,46 +69,40 @@ pub fn close<F: Field, G: Acts<F>, L: Ledger>(
         limit,
         steps,
     )?;
-    close_over(alloc, acts, &mut tables, &singles, &mut row, limit, steps)?;
+    let given = Given {
+        alloc,
+        acts,
+        singles: &singles,
+        limit,
+    };
+    close_over(&given, &mut tables, &mut row, steps)?;
     Ok(Subspaces::new(dim, tables.held))
 }
 
 // Cuts one form of each class with each Fix(q) and finds the images of all, until none is new.
 fn close_over<F: Field, G: Acts<F>, L: Ledger>(
-    alloc: Global,
-    acts: &G,
+    given: &Given<G>,
     tables: &mut Tables<F>,
-    singles: &Singles,
     row: &mut [F],
-    limit: usize,
     steps: &mut Steps<L>,
 ) -> Result<(), CloseError>
-    requires held { AreHeld F.field.laws F.value F.PartialEq.eq (G.action acts.now).dim tables.old.held.keys }
-    requires closing { IsClosing F.field.laws (G.action acts.now) (exact_forms F.field.laws F.value tables.old.held.keys) singles.now.places.items singles.now.elements.items tables.old.pairs.keys tables.old.cuts.items tables.old.sources.items }
-    requires within { length tables.old.held.keys ≤ limit }
-    requires room { length row.old ≡ (G.action acts.now).dim }
-    ensures held { AreHeld F.field.laws F.value F.PartialEq.eq (G.action acts.now).dim tables.new.held.keys }
-    ensures closed { OnOk result (IsClassClosed F.field.laws (G.action acts.now) (exact_forms F.field.laws F.value tables.new.held.keys)) }
-    ensures within { OnOk result (length tables.new.held.keys ≤ limit) }
-    ensures many { (result ≡ Err close_error.TooManySubspaces) → AreMoreFixes F.field.laws (G.action acts.now) limit }
-    ensures wide { (result ≡ Err close_error.Wide) → IsWideFixes F.field (G.action acts.now) }
-    ensures few { AreFewPairs F.field.laws (G.action acts.now) limit (length singles.now.elements.items) tables.new.pairs.keys }
-    ensures cost { steps.new + (G.action acts.now).dim * length tables.old.pairs.keys ≤ steps.old + (G.action acts.now).dim * length tables.new.pairs.keys }
+    requires small { given.now.limit ≤ 16384 }
+    requires held { AreHeld F.field.laws F.value F.PartialEq.eq (G.action given.now.acts.now).dim tables.old.held.keys }
+    requires closing { IsClosing F.field.laws (G.action given.now.acts.now) (exact_forms F.field.laws F.value tables.old.held.keys) given.now.singles.now.places.items given.now.singles.now.elements.items (map (λ r. r.items) tables.old.cuts.items) tables.old.sources.items }
+    requires within { length tables.old.held.keys ≤ given.now.limit }
+    requires room { length row.old ≡ (G.action given.now.acts.now).dim }
+    ensures held { AreHeld F.field.laws F.value F.PartialEq.eq (G.action given.now.acts.now).dim tables.new.held.keys }
+    ensures closed { OnOk result (IsClassClosed F.field.laws (G.action given.now.acts.now) (exact_forms F.field.laws F.value tables.new.held.keys)) }
+    ensures within { OnOk result (length tables.new.held.keys ≤ given.now.limit) }
+    ensures many { (result ≡ Err close_error.TooManySubspaces) → AreMoreFixes F.field.laws (G.action given.now.acts.now) given.now.limit }
+    ensures wide { (result ≡ Err close_error.Wide) → IsWideFixes F.field (G.action given.now.acts.now) }
+    ensures few { AreFewCuts F.field.laws (G.action given.now.acts.now) given.now.limit (length given.now.singles.now.elements.items) (map (λ r. r.items) tables.new.cuts.items) }
+    ensures cost { steps.new + (G.action given.now.acts.now).dim * cut_count (map (λ r. r.items) tables.old.cuts.items) ≤ steps.old + (G.action given.now.acts.now).dim * cut_count (map (λ r. r.items) tables.new.cuts.items) }
 {
-    let mut images = Vec::new(alloc);
-    let mut covered = marks(alloc, limit)?;
-    close_images(alloc, acts, tables, singles, &mut images, row, limit, steps)?;
-    close_classes(
-        alloc,
-        acts,
-        tables,
-        singles,
-        &mut images,
-        &mut covered,
-        row,
-        limit,
-        steps,
-    )?;
+    let mut images = Vec::new(given.alloc);
+    let mut covered = marks(given.alloc, given.limit)?;
+    close_images(given, tables, &mut images, row, steps)?;
+    close_classes(given, tables, &mut images, &mut covered, row, steps)?;
     Ok(())
 }
 
@@ -126,124 +120,114 @@ fn marks(alloc: Global, len: usize) -> Result<Vec<bool>, NoMemory>
 
 // Closes the class of each form, until none is new.
 fn close_classes<F: Field, G: Acts<F>, L: Ledger>(
-    alloc: Global,
-    acts: &G,
+    given: &Given<G>,
     tables: &mut Tables<F>,
-    singles: &Singles,
     images: &mut Vec<Vec<usize>>,
     covered: &mut [bool],
     row: &mut [F],
-    limit: usize,
     steps: &mut Steps<L>,
 ) -> Result<(), CloseError>
-    requires held { AreHeld F.field.laws F.value F.PartialEq.eq (G.action acts.now).dim tables.old.held.keys }
-    requires closing { IsClosing F.field.laws (G.action acts.now) (exact_forms F.field.laws F.value tables.old.held.keys) singles.now.places.items singles.now.elements.items tables.old.pairs.keys tables.old.cuts.items tables.old.sources.items }
-    requires images { AreImages F.field.laws (G.action acts.now) (exact_forms F.field.laws F.value tables.old.held.keys) (map (λ r. r.items) images.old.items) }
+    requires small { given.now.limit ≤ 16384 }
+    requires held { AreHeld F.field.laws F.value F.PartialEq.eq (G.action given.now.acts.now).dim tables.old.held.keys }
+    requires closing { IsClosing F.field.laws (G.action given.now.acts.now) (exact_forms F.field.laws F.value tables.old.held.keys) given.now.singles.now.places.items given.now.singles.now.elements.items (map (λ r. r.items) tables.old.cuts.items) tables.old.sources.items }
+    requires images { AreImages F.field.laws (G.action given.now.acts.now) (exact_forms F.field.laws F.value tables.old.held.keys) (map (λ r. r.items) images.old.items) }
     requires all { length images.old.items ≡ length tables.old.held.keys }
-    requires covered { AreCovered F.field.laws (G.action acts.now) (exact_forms F.field.laws F.value tables.old.held.keys) covered.old }
-    requires marks { length covered.old ≡ limit }
-    requires within { length tables.old.held.keys ≤ limit }
-    requires room { length row.old ≡ (G.action acts.now).dim }
-    ensures held { AreHeld F.field.laws F.value F.PartialEq.eq (G.action acts.now).dim tables.new.held.keys }
-    ensures closed { OnOk result (IsClassClosed F.field.laws (G.action acts.now) (exact_forms F.field.laws F.value tables.new.held.keys)) }
-    ensures within { OnOk result (length tables.new.held.keys ≤ limit) }
-    ensures many { (result ≡ Err close_error.TooManySubspaces) → AreMoreFixes F.field.laws (G.action acts.now) limit }
-    ensures wide { (result ≡ Err close_error.Wide) → IsWideFixes F.field (G.action acts.now) }
-    ensures few { AreFewPairs F.field.laws (G.action acts.now) limit (length singles.now.elements.items) tables.new.pairs.keys }
-    ensures cost { steps.new + (G.action acts.now).dim * length tables.old.pairs.keys ≤ steps.old + (G.action acts.now).dim * length tables.new.pairs.keys }
+    requires covered { AreCovered F.field.laws (G.action given.now.acts.now) (exact_forms F.field.laws F.value tables.old.held.keys) covered.old }
+    requires marks { length covered.old ≡ given.now.limit }
+    requires within { length tables.old.held.keys ≤ given.now.limit }
+    requires room { length row.old ≡ (G.action given.now.acts.now).dim }
+    ensures held { AreHeld F.field.laws F.value F.PartialEq.eq (G.action given.now.acts.now).dim tables.new.held.keys }
+    ensures closed { OnOk result (IsClassClosed F.field.laws (G.action given.now.acts.now) (exact_forms F.field.laws F.value tables.new.held.keys)) }
+    ensures within { OnOk result (length tables.new.held.keys ≤ given.now.limit) }
+    ensures many { (result ≡ Err close_error.TooManySubspaces) → AreMoreFixes F.field.laws (G.action given.now.acts.now) given.now.limit }
+    ensures wide { (result ≡ Err close_error.Wide) → IsWideFixes F.field (G.action given.now.acts.now) }
+    ensures few { AreFewCuts F.field.laws (G.action given.now.acts.now) given.now.limit (length given.now.singles.now.elements.items) (map (λ r. r.items) tables.new.cuts.items) }
+    ensures cost { steps.new + (G.action given.now.acts.now).dim * cut_count (map (λ r. r.items) tables.old.cuts.items) ≤ steps.old + (G.action given.now.acts.now).dim * cut_count (map (λ r. r.items) tables.new.cuts.items) }
 {
-    for at in 0..limit {
+    for at in 0..given.limit {
         if at >= tables.held.len() {
             return Ok(());
         }
-        visit(
-            alloc, acts, tables, singles, images, covered, at, row, limit, steps,
-        )?;
+        visit(given, tables, images, covered, at, row, steps)?;
     }
     Ok(())
 }
 
 // Closes the class of a form that isn't marked.
 fn visit<F: Field, G: Acts<F>, L: Ledger>(
-    alloc: Global,
-    acts: &G,
+    given: &Given<G>,
     tables: &mut Tables<F>,
-    singles: &Singles,
     images: &mut Vec<Vec<usize>>,
     covered: &mut [bool],
     at: usize,
     row: &mut [F],
-    limit: usize,
     steps: &mut Steps<L>,
 ) -> Result<(), CloseError>
+    requires small { given.now.limit ≤ 16384 }
     requires there { at < length tables.old.held.keys }
-    requires held { AreHeld F.field.laws F.value F.PartialEq.eq (G.action acts.now).dim tables.old.held.keys }
-    requires closing { IsClosing F.field.laws (G.action acts.now) (exact_forms F.field.laws F.value tables.old.held.keys) singles.now.places.items singles.now.elements.items tables.old.pairs.keys tables.old.cuts.items tables.old.sources.items }
-    requires images { AreImages F.field.laws (G.action acts.now) (exact_forms F.field.laws F.value tables.old.held.keys) (map (λ r. r.items) images.old.items) }
+    requires held { AreHeld F.field.laws F.value F.PartialEq.eq (G.action given.now.acts.now).dim tables.old.held.keys }
+    requires closing { IsClosing F.field.laws (G.action given.now.acts.now) (exact_forms F.field.laws F.value tables.old.held.keys) given.now.singles.now.places.items given.now.singles.now.elements.items (map (λ r. r.items) tables.old.cuts.items) tables.old.sources.items }
+    requires images { AreImages F.field.laws (G.action given.now.acts.now) (exact_forms F.field.laws F.value tables.old.held.keys) (map (λ r. r.items) images.old.items) }
     requires all { length images.old.items ≡ length tables.old.held.keys }
-    requires covered { AreCovered F.field.laws (G.action acts.now) (exact_forms F.field.laws F.value tables.old.held.keys) covered.old }
-    requires marks { length covered.old ≡ limit }
-    requires within { length tables.old.held.keys ≤ limit }
-    requires room { length row.old ≡ (G.action acts.now).dim }
-    ensures held { AreHeld F.field.laws F.value F.PartialEq.eq (G.action acts.now).dim tables.new.held.keys }
-    ensures closing { OnOk result (IsClosing F.field.laws (G.action acts.now) (exact_forms F.field.laws F.value tables.new.held.keys) singles.now.places.items singles.now.elements.items tables.new.pairs.keys tables.new.cuts.items tables.new.sources.items) }
+    requires covered { AreCovered F.field.laws (G.action given.now.acts.now) (exact_forms F.field.laws F.value tables.old.held.keys) covered.old }
+    requires marks { length covered.old ≡ given.now.limit }
+    requires within { length tables.old.held.keys ≤ given.now.limit }
+    requires room { length row.old ≡ (G.action given.now.acts.now).dim }
+    ensures held { AreHeld F.field.laws F.value F.PartialEq.eq (G.action given.now.acts.now).dim tables.new.held.keys }
+    ensures closing { OnOk result (IsClosing F.field.laws (G.action given.now.acts.now) (exact_forms F.field.laws F.value tables.new.held.keys) given.now.singles.now.places.items given.now.singles.now.elements.items (map (λ r. r.items) tables.new.cuts.items) tables.new.sources.items) }
     ensures grown { OnOk result (IsGrown (exact_forms F.field.laws F.value tables.old.held.keys) (exact_forms F.field.laws F.value tables.new.held.keys)) }
-    ensures images { OnOk result (AreImages F.field.laws (G.action acts.now) (exact_forms F.field.laws F.value tables.new.held.keys) (map (λ r. r.items) images.new.items)) }
+    ensures images { OnOk result (AreImages F.field.laws (G.action given.now.acts.now) (exact_forms F.field.laws F.value tables.new.held.keys) (map (λ r. r.items) images.new.items)) }
     ensures all { OnOk result (length images.new.items ≡ length tables.new.held.keys) }
-    ensures covered { OnOk result (AreCovered F.field.laws (G.action acts.now) (exact_forms F.field.laws F.value tables.new.held.keys) covered.new) }
-    ensures reached { OnOk result (IsReached F.field.laws (G.action acts.now) (exact_forms F.field.laws F.value tables.new.held.keys) at) }
-    ensures within { OnOk result (length tables.new.held.keys ≤ limit) }
-    ensures many { (result ≡ Err close_error.TooManySubspaces) → AreMoreFixes F.field.laws (G.action acts.now) limit }
-    ensures wide { (result ≡ Err close_error.Wide) → IsWideFixes F.field (G.action acts.now) }
-    ensures few { AreFewPairs F.field.laws (G.action acts.now) limit (length singles.now.elements.items) tables.new.pairs.keys }
-    ensures cost { steps.new + (G.action acts.now).dim * length tables.old.pairs.keys ≤ steps.old + (G.action acts.now).dim * length tables.new.pairs.keys }
+    ensures covered { OnOk result (AreCovered F.field.laws (G.action given.now.acts.now) (exact_forms F.field.laws F.value tables.new.held.keys) covered.new) }
+    ensures reached { OnOk result (IsReached F.field.laws (G.action given.now.acts.now) (exact_forms F.field.laws F.value tables.new.held.keys) at) }
+    ensures within { OnOk result (length tables.new.held.keys ≤ given.now.limit) }
+    ensures many { (result ≡ Err close_error.TooManySubspaces) → AreMoreFixes F.field.laws (G.action given.now.acts.now) given.now.limit }
+    ensures wide { (result ≡ Err close_error.Wide) → IsWideFixes F.field (G.action given.now.acts.now) }
+    ensures few { AreFewCuts F.field.laws (G.action given.now.acts.now) given.now.limit (length given.now.singles.now.elements.items) (map (λ r. r.items) tables.new.cuts.items) }
+    ensures cost { steps.new + (G.action given.now.acts.now).dim * cut_count (map (λ r. r.items) tables.old.cuts.items) ≤ steps.old + (G.action given.now.acts.now).dim * cut_count (map (λ r. r.items) tables.new.cuts.items) }
 {
     if covered[at] {
         return Ok(());
     }
-    close_class(
-        alloc, acts, tables, singles, images, covered, at, row, limit, steps,
-    )
+    close_class(given, tables, images, covered, at, row, steps)
 }
 
 // Cuts a form with each Fix(q), finds the images of what is new, and marks the form's class.
 fn close_class<F: Field, G: Acts<F>, L: Ledger>(
-    alloc: Global,
-    acts: &G,
+    given: &Given<G>,
     tables: &mut Tables<F>,
-    singles: &Singles,
     images: &mut Vec<Vec<usize>>,
     covered: &mut [bool],
     at: usize,
     row: &mut [F],
-    limit: usize,
     steps: &mut Steps<L>,
 ) -> Result<(), CloseError>
+    requires small { given.now.limit ≤ 16384 }
     requires there { at < length tables.old.held.keys }
-    requires held { AreHeld F.field.laws F.value F.PartialEq.eq (G.action acts.now).dim tables.old.held.keys }
-    requires closing { IsClosing F.field.laws (G.action acts.now) (exact_forms F.field.laws F.value tables.old.held.keys) singles.now.places.items singles.now.elements.items tables.old.pairs.keys tables.old.cuts.items tables.old.sources.items }
-    requires images { AreImages F.field.laws (G.action acts.now) (exact_forms F.field.laws F.value tables.old.held.keys) (map (λ r. r.items) images.old.items) }
+    requires held { AreHeld F.field.laws F.value F.PartialEq.eq (G.action given.now.acts.now).dim tables.old.held.keys }
+    requires closing { IsClosing F.field.laws (G.action given.now.acts.now) (exact_forms F.field.laws F.value tables.old.held.keys) given.now.singles.now.places.items given.now.singles.now.elements.items (map (λ r. r.items) tables.old.cuts.items) tables.old.sources.items }
+    requires images { AreImages F.field.laws (G.action given.now.acts.now) (exact_forms F.field.laws F.value tables.old.held.keys) (map (λ r. r.items) images.old.items) }
     requires all { length images.old.items ≡ length tables.old.held.keys }
-    requires covered { AreCovered F.field.laws (G.action acts.now) (exact_forms F.field.laws F.value tables.old.held.keys) covered.old }
-    requires marks { length covered.old ≡ limit }
-    requires within { length tables.old.held.keys ≤ limit }
-    requires room { length row.old ≡ (G.action acts.now).dim }
-    ensures held { AreHeld F.field.laws F.value F.PartialEq.eq (G.action acts.now).dim tables.new.held.keys }
-    ensures closing { OnOk result (IsClosing F.field.laws (G.action acts.now) (exact_forms F.field.laws F.value tables.new.held.keys) singles.now.places.items singles.now.elements.items tables.new.pairs.keys tables.new.cuts.items tables.new.sources.items) }
+    requires covered { AreCovered F.field.laws (G.action given.now.acts.now) (exact_forms F.field.laws F.value tables.old.held.keys) covered.old }
+    requires marks { length covered.old ≡ given.now.limit }
+    requires within { length tables.old.held.keys ≤ given.now.limit }
+    requires room { length row.old ≡ (G.action given.now.acts.now).dim }
+    ensures held { AreHeld F.field.laws F.value F.PartialEq.eq (G.action given.now.acts.now).dim tables.new.held.keys }
+    ensures closing { OnOk result (IsClosing F.field.laws (G.action given.now.acts.now) (exact_forms F.field.laws F.value tables.new.held.keys) given.now.singles.now.places.items given.now.singles.now.elements.items (map (λ r. r.items) tables.new.cuts.items) tables.new.sources.items) }
     ensures grown { OnOk result (IsGrown (exact_forms F.field.laws F.value tables.old.held.keys) (exact_forms F.field.laws F.value tables.new.held.keys)) }
-    ensures images { OnOk result (AreImages F.field.laws (G.action acts.now) (exact_forms F.field.laws F.value tables.new.held.keys) (map (λ r. r.items) images.new.items)) }
+    ensures images { OnOk result (AreImages F.field.laws (G.action given.now.acts.now) (exact_forms F.field.laws F.value tables.new.held.keys) (map (λ r. r.items) images.new.items)) }
     ensures all { OnOk result (length images.new.items ≡ length tables.new.held.keys) }
-    ensures covered { OnOk result (AreCovered F.field.laws (G.action acts.now) (exact_forms F.field.laws F.value tables.new.held.keys) covered.new) }
-    ensures reached { OnOk result (IsReached F.field.laws (G.action acts.now) (exact_forms F.field.laws F.value tables.new.held.keys) at) }
-    ensures within { OnOk result (length tables.new.held.keys ≤ limit) }
-    ensures many { (result ≡ Err close_error.TooManySubspaces) → AreMoreFixes F.field.laws (G.action acts.now) limit }
-    ensures wide { (result ≡ Err close_error.Wide) → IsWideFixes F.field (G.action acts.now) }
-    ensures few { AreFewPairs F.field.laws (G.action acts.now) limit (length singles.now.elements.items) tables.new.pairs.keys }
-    ensures cost { steps.new + (G.action acts.now).dim * length tables.old.pairs.keys ≤ steps.old + (G.action acts.now).dim * length tables.new.pairs.keys }
+    ensures covered { OnOk result (AreCovered F.field.laws (G.action given.now.acts.now) (exact_forms F.field.laws F.value tables.new.held.keys) covered.new) }
+    ensures reached { OnOk result (IsReached F.field.laws (G.action given.now.acts.now) (exact_forms F.field.laws F.value tables.new.held.keys) at) }
+    ensures within { OnOk result (length tables.new.held.keys ≤ given.now.limit) }
+    ensures many { (result ≡ Err close_error.TooManySubspaces) → AreMoreFixes F.field.laws (G.action given.now.acts.now) given.now.limit }
+    ensures wide { (result ≡ Err close_error.Wide) → IsWideFixes F.field (G.action given.now.acts.now) }
+    ensures few { AreFewCuts F.field.laws (G.action given.now.acts.now) given.now.limit (length given.now.singles.now.elements.items) (map (λ r. r.items) tables.new.cuts.items) }
+    ensures cost { steps.new + (G.action given.now.acts.now).dim * cut_count (map (λ r. r.items) tables.old.cuts.items) ≤ steps.old + (G.action given.now.acts.now).dim * cut_count (map (λ r. r.items) tables.new.cuts.items) }
 {
-    cut_each(alloc, acts, tables, singles, at, row, limit, steps)?;
-    close_images(alloc, acts, tables, singles, images, row, limit, steps)?;
-    cover(alloc, acts, &tables.held, images, covered, at)?;
+    cut_each(given, tables, at, row, steps)?;
+    close_images(given, tables, images, row, steps)?;
+    cover(given.alloc, given.acts, &tables.held, images, covered, at)?;
     Ok(())
 }
 

@@ -6,52 +6,50 @@ ghost use Rattle.lin_alg.specs.Moves.{conjugate};
 ghost use Rattle.fix_lattice.specs.declared.errors.CloseError.TheVariants as close_error;
 ghost use Rattle.fix_lattice.specs.Subspaces.{AreHeld, exact_forms};
 ghost use Rattle.fix_lattice.specs.Held.{IsGrown};
-ghost use Rattle.fix_lattice.specs.Classes.{IsClosing, IsImageForm, IsImageRow, AreImages, AreFewPairs};
+ghost use Rattle.fix_lattice.specs.Cuts.{cut_count, AreFewCuts};
+ghost use Rattle.fix_lattice.specs.Classes.{IsClosing, IsImageForm, IsImageRow, AreImages};
 ghost use Rattle.fix_lattice.specs.Lattice.{form_at, AreMoreFixes};
 ghost use Rattle.fix_lattice.specs.Wide.{IsWideFixes};
 
 use crate::CloseError;
 use crate::memory::push;
 use crate::singles::Singles;
-use crate::tables::{Tables, cut_at};
+use crate::tables::{Given, Tables, cut_at};
 use cyclo24::Field;
 use lin_alg::{Acts, Steps};
-use std::alloc::Global;
 use std::sync::ledger::Ledger;
 
 // Finds the images of each held form behind the first ones, until none is new.
 pub(crate) fn close_images<F: Field, G: Acts<F>, L: Ledger>(
-    alloc: Global,
-    acts: &G,
+    given: &Given<G>,
     tables: &mut Tables<F>,
-    singles: &Singles,
     images: &mut Vec<Vec<usize>>,
     row: &mut [F],
-    limit: usize,
     steps: &mut Steps<L>,
 ) -> Result<(), CloseError>
-    requires held { AreHeld F.field.laws F.value F.PartialEq.eq (G.action acts.now).dim tables.old.held.keys }
-    requires closing { IsClosing F.field.laws (G.action acts.now) (exact_forms F.field.laws F.value tables.old.held.keys) singles.now.places.items singles.now.elements.items tables.old.pairs.keys tables.old.cuts.items tables.old.sources.items }
-    requires images { AreImages F.field.laws (G.action acts.now) (exact_forms F.field.laws F.value tables.old.held.keys) (map (λ r. r.items) images.old.items) }
+    requires small { given.now.limit ≤ 16384 }
+    requires held { AreHeld F.field.laws F.value F.PartialEq.eq (G.action given.now.acts.now).dim tables.old.held.keys }
+    requires closing { IsClosing F.field.laws (G.action given.now.acts.now) (exact_forms F.field.laws F.value tables.old.held.keys) given.now.singles.now.places.items given.now.singles.now.elements.items (map (λ r. r.items) tables.old.cuts.items) tables.old.sources.items }
+    requires images { AreImages F.field.laws (G.action given.now.acts.now) (exact_forms F.field.laws F.value tables.old.held.keys) (map (λ r. r.items) images.old.items) }
     requires short { length images.old.items ≤ length tables.old.held.keys }
-    requires within { length tables.old.held.keys ≤ limit }
-    requires room { length row.old ≡ (G.action acts.now).dim }
-    ensures held { AreHeld F.field.laws F.value F.PartialEq.eq (G.action acts.now).dim tables.new.held.keys }
-    ensures closing { OnOk result (IsClosing F.field.laws (G.action acts.now) (exact_forms F.field.laws F.value tables.new.held.keys) singles.now.places.items singles.now.elements.items tables.new.pairs.keys tables.new.cuts.items tables.new.sources.items) }
+    requires within { length tables.old.held.keys ≤ given.now.limit }
+    requires room { length row.old ≡ (G.action given.now.acts.now).dim }
+    ensures held { AreHeld F.field.laws F.value F.PartialEq.eq (G.action given.now.acts.now).dim tables.new.held.keys }
+    ensures closing { OnOk result (IsClosing F.field.laws (G.action given.now.acts.now) (exact_forms F.field.laws F.value tables.new.held.keys) given.now.singles.now.places.items given.now.singles.now.elements.items (map (λ r. r.items) tables.new.cuts.items) tables.new.sources.items) }
     ensures grown { OnOk result (IsGrown (exact_forms F.field.laws F.value tables.old.held.keys) (exact_forms F.field.laws F.value tables.new.held.keys)) }
-    ensures images { OnOk result (AreImages F.field.laws (G.action acts.now) (exact_forms F.field.laws F.value tables.new.held.keys) (map (λ r. r.items) images.new.items)) }
+    ensures images { OnOk result (AreImages F.field.laws (G.action given.now.acts.now) (exact_forms F.field.laws F.value tables.new.held.keys) (map (λ r. r.items) images.new.items)) }
     ensures all { OnOk result (length images.new.items ≡ length tables.new.held.keys) }
-    ensures within { OnOk result (length tables.new.held.keys ≤ limit) }
-    ensures many { (result ≡ Err close_error.TooManySubspaces) → AreMoreFixes F.field.laws (G.action acts.now) limit }
-    ensures wide { (result ≡ Err close_error.Wide) → IsWideFixes F.field (G.action acts.now) }
-    ensures few { AreFewPairs F.field.laws (G.action acts.now) limit (length singles.now.elements.items) tables.new.pairs.keys }
-    ensures cost { steps.new + (G.action acts.now).dim * length tables.old.pairs.keys ≤ steps.old + (G.action acts.now).dim * length tables.new.pairs.keys }
+    ensures within { OnOk result (length tables.new.held.keys ≤ given.now.limit) }
+    ensures many { (result ≡ Err close_error.TooManySubspaces) → AreMoreFixes F.field.laws (G.action given.now.acts.now) given.now.limit }
+    ensures wide { (result ≡ Err close_error.Wide) → IsWideFixes F.field (G.action given.now.acts.now) }
+    ensures few { AreFewCuts F.field.laws (G.action given.now.acts.now) given.now.limit (length given.now.singles.now.elements.items) (map (λ r. r.items) tables.new.cuts.items) }
+    ensures cost { steps.new + (G.action given.now.acts.now).dim * cut_count (map (λ r. r.items) tables.old.cuts.items) ≤ steps.old + (G.action given.now.acts.now).dim * cut_count (map (λ r. r.items) tables.new.cuts.items) }
 {
-    for i in images.len()..limit {
+    for i in images.len()..given.limit {
         if i >= tables.held.len() {
             return Ok(());
         }
-        let found = image_row(alloc, acts, tables, singles, images, i, row, limit, steps)?;
+        let found = image_row(given, tables, images, i, row, steps)?;
         push(images, found)?;
     }
     Ok(())
@@ -59,38 +57,34 @@ pub(crate) fn close_images<F: Field, G: Acts<F>, L: Ledger>(
 
 // The places of the images of form i under the generators.
 fn image_row<F: Field, G: Acts<F>, L: Ledger>(
-    alloc: Global,
-    acts: &G,
+    given: &Given<G>,
     tables: &mut Tables<F>,
-    singles: &Singles,
     images: &[Vec<usize>],
     i: usize,
     row: &mut [F],
-    limit: usize,
     steps: &mut Steps<L>,
 ) -> Result<Vec<usize>, CloseError>
+    requires small { given.now.limit ≤ 16384 }
     requires there { i < length tables.old.held.keys }
-    requires held { AreHeld F.field.laws F.value F.PartialEq.eq (G.action acts.now).dim tables.old.held.keys }
-    requires closing { IsClosing F.field.laws (G.action acts.now) (exact_forms F.field.laws F.value tables.old.held.keys) singles.now.places.items singles.now.elements.items tables.old.pairs.keys tables.old.cuts.items tables.old.sources.items }
-    requires images { AreImages F.field.laws (G.action acts.now) (exact_forms F.field.laws F.value tables.old.held.keys) (map (λ r. r.items) images.now) }
+    requires held { AreHeld F.field.laws F.value F.PartialEq.eq (G.action given.now.acts.now).dim tables.old.held.keys }
+    requires closing { IsClosing F.field.laws (G.action given.now.acts.now) (exact_forms F.field.laws F.value tables.old.held.keys) given.now.singles.now.places.items given.now.singles.now.elements.items (map (λ r. r.items) tables.old.cuts.items) tables.old.sources.items }
+    requires images { AreImages F.field.laws (G.action given.now.acts.now) (exact_forms F.field.laws F.value tables.old.held.keys) (map (λ r. r.items) images.now) }
     requires before { length images.now ≡ i }
-    requires within { length tables.old.held.keys ≤ limit }
-    requires room { length row.old ≡ (G.action acts.now).dim }
-    ensures held { AreHeld F.field.laws F.value F.PartialEq.eq (G.action acts.now).dim tables.new.held.keys }
-    ensures closing { OnOk result (IsClosing F.field.laws (G.action acts.now) (exact_forms F.field.laws F.value tables.new.held.keys) singles.now.places.items singles.now.elements.items tables.new.pairs.keys tables.new.cuts.items tables.new.sources.items) }
+    requires within { length tables.old.held.keys ≤ given.now.limit }
+    requires room { length row.old ≡ (G.action given.now.acts.now).dim }
+    ensures held { AreHeld F.field.laws F.value F.PartialEq.eq (G.action given.now.acts.now).dim tables.new.held.keys }
+    ensures closing { OnOk result (IsClosing F.field.laws (G.action given.now.acts.now) (exact_forms F.field.laws F.value tables.new.held.keys) given.now.singles.now.places.items given.now.singles.now.elements.items (map (λ r. r.items) tables.new.cuts.items) tables.new.sources.items) }
     ensures grown { OnOk result (IsGrown (exact_forms F.field.laws F.value tables.old.held.keys) (exact_forms F.field.laws F.value tables.new.held.keys)) }
-    ensures found { IfOk result (λ found. IsImageRow F.field.laws (G.action acts.now) (exact_forms F.field.laws F.value tables.new.held.keys) i (G.action acts.now).generators found.items) }
-    ensures within { OnOk result (length tables.new.held.keys ≤ limit) }
-    ensures many { (result ≡ Err close_error.TooManySubspaces) → AreMoreFixes F.field.laws (G.action acts.now) limit }
-    ensures wide { (result ≡ Err close_error.Wide) → IsWideFixes F.field (G.action acts.now) }
-    ensures few { AreFewPairs F.field.laws (G.action acts.now) limit (length singles.now.elements.items) tables.new.pairs.keys }
-    ensures cost { steps.new + (G.action acts.now).dim * length tables.old.pairs.keys ≤ steps.old + (G.action acts.now).dim * length tables.new.pairs.keys }
+    ensures found { IfOk result (λ found. IsImageRow F.field.laws (G.action given.now.acts.now) (exact_forms F.field.laws F.value tables.new.held.keys) i (G.action given.now.acts.now).generators found.items) }
+    ensures within { OnOk result (length tables.new.held.keys ≤ given.now.limit) }
+    ensures many { (result ≡ Err close_error.TooManySubspaces) → AreMoreFixes F.field.laws (G.action given.now.acts.now) given.now.limit }
+    ensures wide { (result ≡ Err close_error.Wide) → IsWideFixes F.field (G.action given.now.acts.now) }
+    ensures few { AreFewCuts F.field.laws (G.action given.now.acts.now) given.now.limit (length given.now.singles.now.elements.items) (map (λ r. r.items) tables.new.cuts.items) }
+    ensures cost { steps.new + (G.action given.now.acts.now).dim * cut_count (map (λ r. r.items) tables.old.cuts.items) ≤ steps.old + (G.action given.now.acts.now).dim * cut_count (map (λ r. r.items) tables.new.cuts.items) }
 {
-    let mut found = Vec::new(alloc);
-    for p in 0..acts.generators() {
-        let place = image_at(
-            alloc, acts, tables, singles, images, i, p, row, limit, steps,
-        )?;
+    let mut found = Vec::new(given.alloc);
+    for p in 0..given.acts.generators() {
+        let place = image_at(given, tables, images, i, p, row, steps)?;
         push(&mut found, place)?;
     }
     Ok(found)
@@ -99,45 +93,43 @@ fn image_row<F: Field, G: Acts<F>, L: Ledger>(
 // The place of the image of form i under generator p: that of a Fix(q) is a Fix(q), and that of a cut
 // is the cut of the images.
 fn image_at<F: Field, G: Acts<F>, L: Ledger>(
-    alloc: Global,
-    acts: &G,
+    given: &Given<G>,
     tables: &mut Tables<F>,
-    singles: &Singles,
     images: &[Vec<usize>],
     i: usize,
     p: usize,
     row: &mut [F],
-    limit: usize,
     steps: &mut Steps<L>,
 ) -> Result<usize, CloseError>
+    requires small { given.now.limit ≤ 16384 }
     requires there { i < length tables.old.held.keys }
-    requires generator { p < (G.action acts.now).generators }
-    requires held { AreHeld F.field.laws F.value F.PartialEq.eq (G.action acts.now).dim tables.old.held.keys }
-    requires closing { IsClosing F.field.laws (G.action acts.now) (exact_forms F.field.laws F.value tables.old.held.keys) singles.now.places.items singles.now.elements.items tables.old.pairs.keys tables.old.cuts.items tables.old.sources.items }
-    requires images { AreImages F.field.laws (G.action acts.now) (exact_forms F.field.laws F.value tables.old.held.keys) (map (λ r. r.items) images.now) }
+    requires generator { p < (G.action given.now.acts.now).generators }
+    requires held { AreHeld F.field.laws F.value F.PartialEq.eq (G.action given.now.acts.now).dim tables.old.held.keys }
+    requires closing { IsClosing F.field.laws (G.action given.now.acts.now) (exact_forms F.field.laws F.value tables.old.held.keys) given.now.singles.now.places.items given.now.singles.now.elements.items (map (λ r. r.items) tables.old.cuts.items) tables.old.sources.items }
+    requires images { AreImages F.field.laws (G.action given.now.acts.now) (exact_forms F.field.laws F.value tables.old.held.keys) (map (λ r. r.items) images.now) }
     requires before { length images.now ≡ i }
-    requires within { length tables.old.held.keys ≤ limit }
-    requires room { length row.old ≡ (G.action acts.now).dim }
-    ensures held { AreHeld F.field.laws F.value F.PartialEq.eq (G.action acts.now).dim tables.new.held.keys }
-    ensures closing { OnOk result (IsClosing F.field.laws (G.action acts.now) (exact_forms F.field.laws F.value tables.new.held.keys) singles.now.places.items singles.now.elements.items tables.new.pairs.keys tables.new.cuts.items tables.new.sources.items) }
+    requires within { length tables.old.held.keys ≤ given.now.limit }
+    requires room { length row.old ≡ (G.action given.now.acts.now).dim }
+    ensures held { AreHeld F.field.laws F.value F.PartialEq.eq (G.action given.now.acts.now).dim tables.new.held.keys }
+    ensures closing { OnOk result (IsClosing F.field.laws (G.action given.now.acts.now) (exact_forms F.field.laws F.value tables.new.held.keys) given.now.singles.now.places.items given.now.singles.now.elements.items (map (λ r. r.items) tables.new.cuts.items) tables.new.sources.items) }
     ensures grown { OnOk result (IsGrown (exact_forms F.field.laws F.value tables.old.held.keys) (exact_forms F.field.laws F.value tables.new.held.keys)) }
     ensures place { IfOk result (λ y. y < length tables.new.held.keys) }
-    ensures image { IfOk result (λ y. IsImageForm F.field.laws (G.action acts.now) ((G.action acts.now).generator p) (form_at (exact_forms F.field.laws F.value tables.new.held.keys) i) (form_at (exact_forms F.field.laws F.value tables.new.held.keys) y)) }
-    ensures within { OnOk result (length tables.new.held.keys ≤ limit) }
-    ensures many { (result ≡ Err close_error.TooManySubspaces) → AreMoreFixes F.field.laws (G.action acts.now) limit }
-    ensures wide { (result ≡ Err close_error.Wide) → IsWideFixes F.field (G.action acts.now) }
-    ensures few { AreFewPairs F.field.laws (G.action acts.now) limit (length singles.now.elements.items) tables.new.pairs.keys }
-    ensures cost { steps.new + (G.action acts.now).dim * length tables.old.pairs.keys ≤ steps.old + (G.action acts.now).dim * length tables.new.pairs.keys }
+    ensures image { IfOk result (λ y. IsImageForm F.field.laws (G.action given.now.acts.now) ((G.action given.now.acts.now).generator p) (form_at (exact_forms F.field.laws F.value tables.new.held.keys) i) (form_at (exact_forms F.field.laws F.value tables.new.held.keys) y)) }
+    ensures within { OnOk result (length tables.new.held.keys ≤ given.now.limit) }
+    ensures many { (result ≡ Err close_error.TooManySubspaces) → AreMoreFixes F.field.laws (G.action given.now.acts.now) given.now.limit }
+    ensures wide { (result ≡ Err close_error.Wide) → IsWideFixes F.field (G.action given.now.acts.now) }
+    ensures few { AreFewCuts F.field.laws (G.action given.now.acts.now) given.now.limit (length given.now.singles.now.elements.items) (map (λ r. r.items) tables.new.cuts.items) }
+    ensures cost { steps.new + (G.action given.now.acts.now).dim * cut_count (map (λ r. r.items) tables.old.cuts.items) ≤ steps.old + (G.action given.now.acts.now).dim * cut_count (map (λ r. r.items) tables.new.cuts.items) }
 {
-    let a = acts.generator(p);
-    let fixes = singles.elements.len();
+    let a = given.acts.generator(p);
+    let fixes = given.singles.elements.len();
     if i < fixes {
-        return Ok(conjugate_place(acts, singles, a, i));
+        return Ok(conjugate_place(given.acts, given.singles, a, i));
     }
     let (space, k) = tables.sources[i - fixes];
     let at = place_in(images, space, p);
-    let fix = conjugate_place(acts, singles, a, k);
-    let place = cut_at(alloc, acts, tables, singles, at, fix, row, limit, steps)?;
+    let fix = conjugate_place(given.acts, given.singles, a, k);
+    let place = cut_at(given, tables, at, fix, row, steps)?;
     Ok(place)
 }
 

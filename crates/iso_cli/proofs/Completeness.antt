@@ -5,27 +5,35 @@ use Rattle.iso_report.specs.Outcome.{IsOutcome, report, refused}
 use Rattle.iso_report.specs.OutcomeLaws.{HasOneOutcome}
 use Rattle.iso_report.specs.declared.job.Job.{Job}
 use Rattle.iso_report.specs.declared.refusal.Refusal.{Refusal}
+use Rattle.iso_report.specs.declared.refusal.Refusal.TheVariants as refusal
 use Rattle.iso_cli.specs.declared.status.Status.{Status}
 use Rattle.iso_cli.specs.declared.status.Status.TheVariants as status
-use Rattle.iso_cli.specs.Answers.{Answers, IsRefused, max_bytes}
+use Rattle.iso_cli.specs.Answers.{Answers, IsNarrow, IsNotWide, IsRefused, max_bytes}
 
 report_refused : (r : List ℕ) (q : Refusal) → report r ≡ refused q → ⊥
 report_refused r q e = cc
 
+refused_same : (q s : Refusal) → refused q ≡ refused s → q ≡ s
+refused_same q s e = cc
+
 module _ (one : (job : Job) → HasOneOutcome job) (job : Job) (s : Status) (bytes : List ℕ) (out err : Change) (a : Answers job bytes s out err) where
+  -- a report and a refusal that is no wide number exclude each other
+  exclude : (r : List ℕ) (q : Refusal) → IsNotWide q → IsOutcome job bytes (report r) → IsOutcome job bytes (refused q) → ⊥
+  exclude r q n o p = report_refused r q (one job bytes (report r) (refused q) o p (λ k e. report_refused r (refusal.Wide k) e) (λ k e. n k (refused_same q (refusal.Wide k) e)))
+
   -- few enough bytes with a report are not refused
-  not_refused : length bytes ≤ max_bytes → (r : List ℕ) → IsOutcome job bytes (report r) → s ≢ status.Refused
-  not_refused l r o e = by (subst (λ (t : Status). Answers job bytes t out err) e a).1
+  not_refused : length bytes ≤ max_bytes → IsNarrow job bytes → (r : List ℕ) → IsOutcome job bytes (report r) → s ≢ status.Refused
+  not_refused l narrow r o e = by (subst (λ (t : Status). Answers job bytes t out err) e a).1
     where
       by : IsRefused job bytes err → ⊥
       by (inl (m, said)) = absurd (omega (arith, l, m))
-      by (inr (q, m, p, said)) = report_refused r q (one job bytes (report r) (refused q) o p)
+      by (inr (q, m, p, said)) = exclude r q (λ k w. narrow k (subst (λ (x : Refusal). IsOutcome job bytes (refused x)) w p)) o p
 
   -- bytes that are refused have no report, whole or in part
-  not_reported : (q : Refusal) → IsOutcome job bytes (refused q) → (s ≢ status.Done) × (s ≢ status.WriteFault)
-  not_reported q o = (
-    λ e. let done = (subst (λ (t : Status). Answers job bytes t out err) e a).1 in report_refused done.0 q (one job bytes (report done.0) (refused q) done.1 o),
-    λ e. let broken = (subst (λ (t : Status). Answers job bytes t out err) e a).1 in report_refused broken.0 q (one job bytes (report broken.0) (refused q) broken.1 o),
+  not_reported : (q : Refusal) → IsNotWide q → IsOutcome job bytes (refused q) → (s ≢ status.Done) × (s ≢ status.WriteFault)
+  not_reported q n o = (
+    λ e. let done = (subst (λ (t : Status). Answers job bytes t out err) e a).1 in exclude done.0 q n done.1 o,
+    λ e. let broken = (subst (λ (t : Status). Answers job bytes t out err) e a).1 in exclude broken.0 q n broken.1 o,
   )
 
 -- of the job that the words name, and of the bytes that were left
@@ -39,12 +47,12 @@ module _ (named : Option Job) (job : Job) (named_is : named ≡ Some job) (P Q :
 
 module _ (one : (job : Job) → HasOneOutcome job) (named : Option Job) (job : Job) (named_is : named ≡ Some job) (left : Option (List ℕ)) (s : Status) (out err : Change)
     (a : IfSome left (λ bytes. Answers job bytes s out err)) where
-  pub complete_answer : IfSome named (λ j. IfSome left (λ bytes. length bytes ≤ max_bytes → (r : List ℕ) → IsOutcome j bytes (report r) → s ≢ status.Refused))
+  pub complete_answer : IfSome named (λ j. IfSome left (λ bytes. length bytes ≤ max_bytes → IsNarrow j bytes → (r : List ℕ) → IsOutcome j bytes (report r) → s ≢ status.Refused))
   complete_answer =
-      of_named named job named_is (λ j bytes. Answers j bytes s out err) (λ j bytes. length bytes ≤ max_bytes → (r : List ℕ) → IsOutcome j bytes (report r) → s ≢ status.Refused)
+      of_named named job named_is (λ j bytes. Answers j bytes s out err) (λ j bytes. length bytes ≤ max_bytes → IsNarrow j bytes → (r : List ℕ) → IsOutcome j bytes (report r) → s ≢ status.Refused)
       left (λ bytes h. not_refused one job s bytes out err h) a
 
-  pub sound_answer : IfSome named (λ j. IfSome left (λ bytes. (r : Refusal) → IsOutcome j bytes (refused r) → (s ≢ status.Done) × (s ≢ status.WriteFault)))
+  pub sound_answer : IfSome named (λ j. IfSome left (λ bytes. (r : Refusal) → IsNotWide r → IsOutcome j bytes (refused r) → (s ≢ status.Done) × (s ≢ status.WriteFault)))
   sound_answer =
-      of_named named job named_is (λ j bytes. Answers j bytes s out err) (λ j bytes. (r : Refusal) → IsOutcome j bytes (refused r) → (s ≢ status.Done) × (s ≢ status.WriteFault))
+      of_named named job named_is (λ j bytes. Answers j bytes s out err) (λ j bytes. (r : Refusal) → IsNotWide r → IsOutcome j bytes (refused r) → (s ≢ status.Done) × (s ≢ status.WriteFault))
       left (λ bytes h. not_reported one job s bytes out err h) a

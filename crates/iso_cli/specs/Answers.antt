@@ -3,7 +3,8 @@
 -- Says line err: err has grown by the line
 -- Answers job bytes status out err: the answer to a job over all the bytes that were left
 -- AnswersNoJob status out err: the answer where the words name no job
-use Rattle.std.specs.Prelude.{◌⊎◌, ℕ, ◌<◌, ◌≤◌, List, [], length, codes}
+-- IsNarrow job bytes: no number of the job passes its bound on these bytes; IsNotWide r: the refusal is no such number
+use Rattle.std.specs.Prelude.{◌≢◌, ◌⊎◌, ℕ, ◌<◌, ◌≤◌, List, [], length, codes}
 use Rattle.iso_report.specs.declared.job.Job.{Job}
 use Rattle.iso_report.specs.declared.refusal.Refusal.{Refusal}
 use Rattle.iso_report.specs.declared.refusal.Refusal.TheVariants as refusal
@@ -61,3 +62,11 @@ Answers job bytes status.NoMemory out err = IsStopped job bytes out × Says memo
 -- the answer where the words name no job: not built, and nothing on out
 abbrev pub AnswersNoJob : Status → Change → Change → Type 0
 AnswersNoJob status out err = Grew [] out × SaysRefusal refusal.NotBuilt status err
+
+-- no number of the job passes its bound
+abbrev pub IsNarrow : Job → List ℕ → Type 0
+IsNarrow job bytes = (k : ℕ) → IsOutcome job bytes (refused (refusal.Wide k)) → ⊥
+
+-- the refusal is no number that passes its bound
+abbrev pub IsNotWide : Refusal → Type 0
+IsNotWide r = (k : ℕ) → r ≢ refusal.Wide k

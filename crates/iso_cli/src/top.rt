@@ -5,7 +5,7 @@ ghost use Rattle.iso_text.specs.Streams.{IsRestOf};
 ghost use Rattle.iso_report.specs.Endings.{change};
 ghost use Rattle.iso_report.specs.Outcome.{IsOutcome, report, refused};
 ghost use Rattle.iso_report.specs.Report.{line_of};
-ghost use Rattle.iso_cli.specs.Answers.{Answers, AnswersNoJob, Says, SaysRefusal};
+ghost use Rattle.iso_cli.specs.Answers.{Answers, AnswersNoJob, IsNarrow, IsNotWide, Says, SaysRefusal};
 ghost use Rattle.iso_cli.specs.Words.{job_of, texts_of};
 
 use crate::Status;
@@ -130,12 +130,13 @@ pub fn isodist<'a, S: Source, O: Sink, E: Sink>(
         (change (O.written out.old) (O.written out.new) (O.faults out.old) (O.faults out.new))
         (change (E.written err.old) (E.written err.new) (E.faults err.old) (E.faults err.new)))) }
 
-    // Where the definitions give a report of few enough bytes, these are not refused; where they refuse
-    // the bytes, no report is written, whole or in part.
+    // Where the definitions give a report of few enough bytes, and no number passes its bound, these are
+    // not refused; where they refuse the bytes, besides such a number, no report is written, whole or in
+    // part.
     ensures complete { IfSome (job_of (texts_of words.now)) (λ job. IfSome (S.left source.old) (λ bytes.
-        length bytes ≤ MAX_BYTES → (r : List ℕ) → IsOutcome job bytes (report r) → result ≢ Status.Refused)) }
+        length bytes ≤ MAX_BYTES → IsNarrow job bytes → (r : List ℕ) → IsOutcome job bytes (report r) → result ≢ Status.Refused)) }
     ensures sound { IfSome (job_of (texts_of words.now)) (λ job. IfSome (S.left source.old) (λ bytes.
-        (r : Refusal) → IsOutcome job bytes (refused r) → (result ≢ Status.Done) × (result ≢ Status.WriteFault))) }
+        (r : Refusal) → IsNotWide r → IsOutcome job bytes (refused r) → (result ≢ Status.Done) × (result ≢ Status.WriteFault))) }
 
     // Over all streams: out is as it was after a refusal and a read fault, and each fault has its count.
     ensures refused_out { result ≡ Status.Refused → out.new ≡ out.old }

@@ -1,28 +1,77 @@
 -- A file's bytes have one outcome.
-use Rattle.std.proofs.Common.{◌∙◌, sym}
+use Rattle.std.proofs.Common.{ap, ◌∙◌, sym, subst, List}
 use Rattle.iso_text.specs.FileLaws.{FilesAreUnique, CausesAreUnique, FilesHaveNoCause}
 use Rattle.iso_report.specs.declared.job.Job.{Job}
+use Rattle.iso_text.specs.FileValue.{File}
+use Rattle.super_group.specs.Quotient.{IsQuotient}
 use Rattle.iso_report.specs.declared.job.Job.TheVariants as job
-use Rattle.iso_report.specs.Outcome.{IsFound, AfterParent, AfterBuilt, AfterText}
+use Rattle.iso_report.specs.Check.{check_text}
+use Rattle.iso_report.specs.Contexts.{Parented, Divided}
+use Rattle.iso_report.specs.Finding.{report}
+use Rattle.iso_report.specs.IrrepReport.{Facts, AreFactsOf}
+use Rattle.iso_report.specs.Irreps.{HasPhase, RefusesPhase, HasRep, RefusesRep, HasInduced, RefusesInduced}
+use Rattle.iso_report.specs.Outcome.{IsFound, AfterReps, AfterOrder, AfterPhases, AfterParent, AfterText}
 use Rattle.iso_report.specs.OutcomeLaws.{HasOneOutcome}
-use Rattle.iso_report.specs.Stages.{RefusesText, IsRead, RefusesUnbuilt, IsBuilt, RefusesParent, IsParented, RefusesOrder, IsDivided}
-use Rattle.iso_report.specs.StepLaws.{FindsOne, After-single}
+use Rattle.iso_report.specs.Stages.{RefusesText, IsRead, RefusesParent, IsParented, RefusesPhases, HavePhases, RefusesOrder, IsDivided, RefusesReps, AreWideReps, HaveReps, RefusesDimensions, AreWideInduced, HaveInduced}
+use Rattle.iso_report.specs.StepLaws.{IsSingleAt, FindsOneAt, After-single-at}
 use Rattle.iso_report.specs.Steps.{never}
 use Rattle.iso_report.proofs.SignUniqueLemmas.{first-listing-one}
-use Rattle.iso_report.proofs.UniqueLemmas.{SymbolsAreUnique, ListsAreUnique, text-single, built-single, parent-single, order-single}
+use Rattle.iso_report.proofs.EachLemmas.{each-same, first-one, first-none}
+use Rattle.iso_report.proofs.IrrepUniqueLemmas.{phase-one, phase-apart, rep-one, rep-apart, induced-one, induced-apart, facts-one}
+use Rattle.iso_report.proofs.UniqueLemmas.{SymbolsAreUnique, ListsAreUnique, text-single, parent-single, order-single, single-at}
 
-found-one : FindsOne (IsFound job.Check)
-found-one d f g x y = x ∙ sym y
+-- ---- the steps over irreps
 
-order-one : FindsOne (AfterParent job.Check)
-order-one = After-single RefusesOrder never IsDivided (IsFound job.Check) order-single (λ a k w. w) found-one
+phases-single : (p : Parented) → IsSingleAt RefusesPhases HavePhases p
+phases-single p = record {
+  refusal = first-one (HasPhase p.parent) (RefusesPhase p.parent) (phase-one p.parent) (phase-apart p.parent) p.file.irreps;
+  value = λ a b x y. x.1 ∙ sym y.1;
+  apart = λ r b x y. first-none (HasPhase p.parent) (RefusesPhase p.parent) (phase-apart p.parent) p.file.irreps r y.0 x;
+}
 
-parent-one : SymbolsAreUnique → ListsAreUnique → FindsOne (AfterBuilt job.Check)
-parent-one symbols lists = After-single RefusesParent never IsParented (AfterParent job.Check) (parent-single symbols lists) (λ a k w. w) order-one
+module _ (d : Divided) (h : IsQuotient d.quotient) where
+  reps-single : IsSingleAt RefusesReps HaveReps d
+  reps-single = record {
+    refusal = first-one (HasRep d.quotient.parent) (RefusesRep d.quotient.parent) (rep-one d.quotient.parent h.parent) (rep-apart d.quotient.parent h.parent) d.file.irreps;
+    value = λ a b x y. x.1 ∙ sym y.1;
+    apart = λ r b x y. first-none (HasRep d.quotient.parent) (RefusesRep d.quotient.parent) (rep-apart d.quotient.parent h.parent) d.file.irreps r y.0 x;
+  }
 
-built-one : SymbolsAreUnique → ListsAreUnique → FindsOne (AfterText job.Check)
-built-one symbols lists = After-single RefusesUnbuilt never IsBuilt (AfterBuilt job.Check) built-single (λ a k w. w) (parent-one symbols lists)
+  dimensions-single : IsSingleAt RefusesDimensions HaveInduced d
+  dimensions-single = record {
+    refusal = first-one (HasInduced d.quotient) (RefusesInduced d.quotient) (induced-one d.quotient h) (induced-apart d.quotient h) d.file.irreps;
+    value = λ a b x y. x.1 ∙ sym y.1;
+    apart = λ r b x y. first-none (HasInduced d.quotient) (RefusesInduced d.quotient) (induced-apart d.quotient h) d.file.irreps r y.0 x;
+  }
+
+  -- ---- what is found behind each step
+
+  found-one : FindsOneAt (IsFound job.Check) d
+  found-one f g (facts, a, e) (other, b, k) u v = e ∙ ap (λ (fs : List Facts). report (check_text d fs)) (each-same (AreFactsOf d.quotient) d.file.irreps facts other (facts-one d.quotient h) a b) ∙ sym k
+
+  induced-found : FindsOneAt (AfterReps job.Check) d
+  induced-found =
+      After-single-at RefusesDimensions AreWideInduced HaveInduced (IsFound job.Check) d dimensions-single
+      (λ e w. let P : Divided → Type 0 = FindsOneAt (IsFound job.Check) in subst P (sym w.1) found-one)
+
+  reps-found : FindsOneAt (AfterOrder job.Check) d
+  reps-found =
+      After-single-at RefusesReps AreWideReps HaveReps (AfterReps job.Check) d reps-single
+      (λ e w. let P : Divided → Type 0 = FindsOneAt (AfterReps job.Check) in subst P (sym w.1) induced-found)
+
+order-found : (p : Parented) → FindsOneAt (AfterPhases job.Check) p
+order-found p = After-single-at RefusesOrder never IsDivided (AfterOrder job.Check) p (single-at RefusesOrder IsDivided order-single p) (λ d w. reps-found d w.quotient)
+
+phases-found : (p : Parented) → FindsOneAt (AfterParent job.Check) p
+phases-found p =
+    After-single-at RefusesPhases never HavePhases (AfterPhases job.Check) p (phases-single p)
+    (λ q w. let P : Parented → Type 0 = FindsOneAt (AfterPhases job.Check) in subst P (sym w.1) (order-found p))
+
+parent-found : SymbolsAreUnique → ListsAreUnique → (file : File) → FindsOneAt (AfterText job.Check) file
+parent-found symbols lists file =
+    After-single-at RefusesParent never IsParented (AfterParent job.Check) file (single-at RefusesParent IsParented (parent-single symbols lists) file) (λ p w. phases-found p)
 
 pub outcome-one : FilesAreUnique → CausesAreUnique → FilesHaveNoCause → SymbolsAreUnique → ListsAreUnique → (j : Job) → HasOneOutcome j
-outcome-one files causes apart symbols lists job.List = first-listing-one
-outcome-one files causes apart symbols lists job.Check = After-single RefusesText never IsRead (AfterText job.Check) (text-single files causes apart) (λ a k w. w) (built-one symbols lists)
+outcome-one files causes apart symbols lists job.List = λ bytes f g x y u v. first-listing-one bytes f g x y
+outcome-one files causes apart symbols lists job.Check =
+    λ bytes. After-single-at RefusesText never IsRead (AfterText job.Check) bytes (single-at RefusesText IsRead (text-single files causes apart) bytes) (λ file w. parent-found symbols lists file)

@@ -15,24 +15,17 @@ use Rattle.iso_report.specs.declared.refusal.Refusal.{Refusal}
 use Rattle.iso_report.specs.declared.refusal.Refusal.TheVariants as refusal
 use Rattle.iso_report.specs.Contexts.{Parented, Divided}
 use Rattle.iso_report.specs.Generators.{op_line_at, IsFirstBad, RefusesGivenBy, AreGivenBy}
-use Rattle.iso_report.specs.Stages.{RefusesText, IsRead, RefusesUnbuilt, IsBuilt, RefusesGroup, IsParentOf, RefusesParent, IsParented, denominators_of, RefusesOrder, IsDivided}
-use Rattle.iso_report.specs.StepLaws.{IsSingle}
+use Rattle.iso_report.specs.Stages.{RefusesText, IsRead, RefusesGroup, IsParentOf, RefusesParent, IsParented, denominators_of, RefusesOrder, IsDivided}
+use Rattle.iso_report.specs.StepLaws.{IsSingle, IsSingleAt}
 use Rattle.iso_report.proofs.TranslationLemmas.{translations-unique, multiplier_list-unique}
 
--- ---- the text, and what is built
+-- ---- the text
 
 pub text-single : FilesAreUnique → CausesAreUnique → FilesHaveNoCause → IsSingle RefusesText IsRead
 text-single files causes apart = record {
   refusal = λ bytes r s x y. x.2 ∙ ap (λ n. refusal.BadText n) (causes (lines_of bytes) x.0 y.0 x.1 y.1) ∙ sym y.2;
   value = λ bytes f g x y. files (lines_of bytes) f g x y;
   apart = λ bytes r f x y. apart (lines_of bytes) f x.0 y x.1;
-}
-
-pub built-single : IsSingle RefusesUnbuilt IsBuilt
-built-single = record {
-  refusal = λ file r s x y. x.1 ∙ sym y.1;
-  value = λ file f g x y. x.1 ∙ sym y.1;
-  apart = λ file r f x y. x.0 y.0;
 }
 
 -- ---- the generators
@@ -167,3 +160,8 @@ order-single = record {
   where
     too_large : (m n : ℕ) → m ≡ n → 6144 < m → n ≤ 6144 → ⊥
     too_large m n e l k = absurd (omega (arith, e, l, k))
+
+-- ---- at one value
+
+pub single-at : {A B : Type 0} (refuses : A → Refusal → Type 0) (passes : A → B → Type 0) → IsSingle refuses passes → (a : A) → IsSingleAt refuses passes a
+single-at refuses passes s a = record { refusal = s.refusal a; value = s.value a; apart = s.apart a }

@@ -1,8 +1,8 @@
--- The report of `check` on a file with no irrep.
+-- The report of `check`.
 --
 -- first_line format: the first line
 -- supercell_line d order: the multipliers and the order
--- check_text d: the report on a parent group and its quotient
+-- check_text d facts: the report on a parent group, its quotient and the irreps with their facts
 use Rattle.std.specs.Prelude.{ℕ, List, [], ◌∷◌, ◌++◌, length, flat_map, codes, decimal}
 use Rattle.space_ops.specs.declared.lattice.Lattice.{Lattice}
 use Rattle.space_ops.specs.declared.op.Op.{Op}
@@ -12,6 +12,7 @@ use Rattle.super_group.specs.Supercell.{multiplier}
 use Rattle.super_group.specs.Quotient.{order_of}
 use Rattle.iso_text.specs.Lines.{line}
 use Rattle.iso_report.specs.Contexts.{Divided}
+use Rattle.iso_report.specs.IrrepReport.{Facts, irreps_text}
 
 -- the line of an operation
 abbrev pub listed_line : Op → List ℕ
@@ -30,9 +31,9 @@ supercell_line d order =
 abbrev pub first_line : ℕ → List ℕ
 first_line format = codes "isodist " ++ decimal format ++ codes " check"
 
--- the lattice, the listed operations in order, and the supercell
-abbrev pub check_text : Divided → List ℕ
-check_text d =
+-- the lattice, the listed operations in order, the supercell, and the irreps
+abbrev pub check_text : Divided → List Facts → List ℕ
+check_text d facts =
     let s = d.quotient in
     line (first_line d.file.format) (line (lattice_line s.parent.lattice (length (centrings_of s.parent.lattice)) (length s.parent.ops))
-    (flat_map listed_line s.parent.ops ++ supercell_line s.d (order_of s)))
+    (flat_map listed_line s.parent.ops ++ supercell_line s.d (order_of s) ++ irreps_text s.parent d.file.irreps facts))

@@ -10,10 +10,21 @@ pub mod StepLaws
 pub mod Contexts
 -- the lattice and the generators that a file gives its parent group, by a Hall symbol or by operations
 pub mod Generators
+-- how every irrep of a file is judged
+pub mod IrrepSteps
+-- the numbered steps over the irreps of a file
+pub mod Irreps
 -- the numbered steps of the work on a file
 pub mod Stages
--- the report of `check` on a file with no irrep
+-- the fractions of a wave vector
+pub mod Fractions
+-- what is told of an irrep
+pub mod IrrepReport
+-- the report of `check`
 pub mod Check
+-- what the program holds of a file
+pub mod Held
+pub mod HeldFiles
 -- a finite group that acts on vectors, stabilisers of vectors and fixed subspaces
 pub mod SignAction
 -- order parameter directions

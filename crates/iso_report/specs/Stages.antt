@@ -1,10 +1,12 @@
 -- The numbered steps of the work on a file: what each refuses, and what passes it.
 --
 -- RefusesText, IsRead: the text
--- RefusesUnbuilt, IsBuilt: what is built of files so far
 -- RefusesParent, IsParented: the parent group
+-- RefusesPhases, HavePhases: the wave vectors
 -- RefusesOrder, IsDivided: the parent group modulo the supercell of the wave vectors
-use Rattle.std.specs.Prelude.{◌≡◌, ◌⊎◌, ℕ, ◌<◌, ◌≤◌, List, length, map}
+-- RefusesReps, AreWideReps, HaveReps: the small representations
+-- RefusesDimensions, AreWideInduced, HaveInduced: the representations that they induce
+use Rattle.std.specs.Prelude.{◌≡◌, ◌⊎◌, ℕ, ◌<◌, ◌≤◌, List, All, map}
 use Rattle.iso_text.specs.File.{IsFile, HasCause}
 use Rattle.iso_text.specs.FileValue.{File}
 use Rattle.iso_text.specs.Lines.{lines_of}
@@ -17,6 +19,8 @@ use Rattle.super_group.specs.Multipliers.{AreMultipliers}
 use Rattle.super_group.specs.Quotient.{IsQuotient, order_in}
 use Rattle.iso_report.specs.Contexts.{Parented, Divided}
 use Rattle.iso_report.specs.Generators.{RefusesGenerators, AreGiven}
+use Rattle.iso_report.specs.IrrepSteps.{IsFirstRefused, IsWideAmong}
+use Rattle.iso_report.specs.Irreps.{HasPhase, RefusesPhase, HasRep, RefusesRep, IsWideRep, HasInduced, RefusesInduced, IsWideInducedRep}
 use Rattle.iso_report.specs.declared.refusal.Refusal.{Refusal}
 use Rattle.iso_report.specs.declared.refusal.Refusal.TheVariants as refusal
 
@@ -27,16 +31,6 @@ RefusesText bytes r = (n : ℕ) × HasCause (lines_of bytes) (BadText n) × (r �
 -- the file that the lines are
 abbrev pub IsRead : List ℕ → File → Type 0
 IsRead bytes file = IsFile (lines_of bytes) file
-
--- what is built of files so far: no irrep
-abbrev pub HasNoIrrep : File → Type 0
-HasNoIrrep file = length file.irreps ≡ 0
-
-abbrev pub RefusesUnbuilt : File → Refusal → Type 0
-RefusesUnbuilt file r = (HasNoIrrep file → ⊥) × (r ≡ refusal.NotBuilt)
-
-abbrev pub IsBuilt : File → File → Type 0
-IsBuilt file built = HasNoIrrep file × (built ≡ file)
 
 -- the words over the generators and the lattice have too many rotations, or else one is a pure translation outside the lattice
 abbrev pub RefusesGroup : Lattice → List Op → Refusal → Type 0
@@ -60,6 +54,13 @@ RefusesParent file r = RefusesGenerators file r ⊎ ((lattice : Lattice) × (gen
 abbrev pub IsParented : File → Parented → Type 0
 IsParented file p = (lattice : Lattice) × (gens : List Op) × AreGiven file lattice gens × IsParentOf lattice gens p.parent × (p.file ≡ file)
 
+-- the first irrep whose wave vector has a phase that is no multiple of 1/24
+abbrev pub RefusesPhases : Parented → Refusal → Type 0
+RefusesPhases p r = IsFirstRefused (HasPhase p.parent) (RefusesPhase p.parent) p.file.irreps r
+
+abbrev pub HavePhases : Parented → Parented → Type 0
+HavePhases p q = All (HasPhase p.parent) p.file.irreps × (q ≡ p)
+
 -- the denominators of the wave vectors
 abbrev pub denominators_of : File → List (List ℕ)
 denominators_of file = map (λ i. map (λ v. v.den) i.k) file.irreps
@@ -77,3 +78,25 @@ pub record IsDivided (p : Parented) (d : Divided) : Type 0 where
   pub multipliers : AreMultipliers p.parent.ops (denominators_of p.file) d.quotient.d
   pub small : order_in p.parent d.quotient.d ≤ 6144
   pub file_is : d.file ≡ p.file
+
+-- the first irrep whose lines give no small representation
+abbrev pub RefusesReps : Divided → Refusal → Type 0
+RefusesReps d r = IsFirstRefused (HasRep d.quotient.parent) (RefusesRep d.quotient.parent) d.file.irreps r
+
+-- a number of some irrep is wide
+abbrev pub AreWideReps : Divided → ℕ → Type 0
+AreWideReps d k = IsWideAmong (IsWideRep d.quotient.parent) d.file.irreps k
+
+abbrev pub HaveReps : Divided → Divided → Type 0
+HaveReps d e = All (HasRep d.quotient.parent) d.file.irreps × (e ≡ d)
+
+-- the first irrep that induces too many real dimensions, or whose given vector doesn't fit
+abbrev pub RefusesDimensions : Divided → Refusal → Type 0
+RefusesDimensions d r = IsFirstRefused (HasInduced d.quotient) (RefusesInduced d.quotient) d.file.irreps r
+
+-- a number of some irrep is wide
+abbrev pub AreWideInduced : Divided → ℕ → Type 0
+AreWideInduced d k = IsWideAmong (IsWideInducedRep d.quotient) d.file.irreps k
+
+abbrev pub HaveInduced : Divided → Divided → Type 0
+HaveInduced d e = All (HasInduced d.quotient) d.file.irreps × (e ≡ d)

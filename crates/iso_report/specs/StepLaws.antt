@@ -1,9 +1,12 @@
 -- The law of a step: one answer of each step makes one finding.
 --
--- IsSingle refuses passes: a step has one answer
+-- IsSingle refuses passes: a step has one answer; IsSingleAt refuses passes a: at a
 -- After-single: one finding behind a step with one answer, where no family of numbers is wide
-use Rattle.std.proofs.Common.{◌≡◌, sym, ap, ◌∙◌, subst, ℕ, inl, inr}
+-- IsNoWide f: the finding is no number that passes its bound
+-- After-single-at: one finding behind a step with one answer at a, besides such numbers
+use Rattle.std.proofs.Common.{◌≡◌, ◌≢◌, sym, ap, ◌∙◌, subst, ℕ, inl, inr}
 use Rattle.iso_report.specs.declared.refusal.Refusal.{Refusal}
+use Rattle.iso_report.specs.declared.refusal.Refusal.TheVariants.{Wide}
 use Rattle.iso_report.specs.Finding.{Finding, refused}
 use Rattle.iso_report.specs.Steps.{After}
 
@@ -28,3 +31,29 @@ After-single refuses wide passes next s w n a f g (inr (inr (b, p, k))) (inr (in
 After-single {A} {B} refuses wide passes next s w n a f g (inr (inr (b, p, k))) (inr (inr (c, q, m))) =
     let P : B → Type 0 = λ x. next x f in
     n c f g (subst P (s.value a b c p q) k) m
+
+-- the finding is no number that passes its bound
+abbrev pub IsNoWide : Finding → Type 0
+IsNoWide f = (k : ℕ) → f ≢ refused (Wide k)
+
+-- at most one refusal of a, at most one value that passes, and not both
+pub record IsSingleAt {A B : Type 0} (refuses : A → Refusal → Type 0) (passes : A → B → Type 0) (a : A) : Type 0 where
+  pub refusal : (r s : Refusal) → refuses a r → refuses a s → r ≡ s
+  pub value : (b c : B) → passes a b → passes a c → b ≡ c
+  pub apart : (r : Refusal) (b : B) → refuses a r → passes a b → ⊥
+
+-- what next finds at b is one, besides numbers that pass their bound
+abbrev pub FindsOneAt : {B : Type 0} → (B → Finding → Type 0) → B → Type 0
+FindsOneAt {B} next b = (f g : Finding) → next b f → next b g → IsNoWide f → IsNoWide g → f ≡ g
+
+pub After-single-at : {A B : Type 0} (refuses : A → Refusal → Type 0) (wide : A → ℕ → Type 0) (passes : A → B → Type 0) (next : B → Finding → Type 0) (a : A)
+    → IsSingleAt refuses passes a → ((b : B) → passes a b → FindsOneAt next b) → FindsOneAt (After refuses wide passes next) a
+After-single-at refuses wide passes next a s n f g (inl (r, x, e)) (inl (q, y, h)) u v = e ∙ ap refused (s.refusal r q x y) ∙ sym h
+After-single-at refuses wide passes next a s n f g (inl (r, x, e)) (inr (inl (k, y, h))) u v = absurd (v k h)
+After-single-at refuses wide passes next a s n f g (inl (r, x, e)) (inr (inr (c, q, m))) u v = absurd (s.apart r c x q)
+After-single-at refuses wide passes next a s n f g (inr (inl (k, x, e))) h u v = absurd (u k e)
+After-single-at refuses wide passes next a s n f g (inr (inr (b, p, k))) (inl (q, y, h)) u v = absurd (s.apart q b y p)
+After-single-at refuses wide passes next a s n f g (inr (inr (b, p, k))) (inr (inl (i, y, h))) u v = absurd (v i h)
+After-single-at {A} {B} refuses wide passes next a s n f g (inr (inr (b, p, k))) (inr (inr (c, q, m))) u v =
+    let P : B → Type 0 = λ x. next x f in
+    n c q f g (subst P (s.value b c p q) k) m u v

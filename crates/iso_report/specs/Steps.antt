@@ -2,6 +2,7 @@
 --
 -- After refuses wide passes next a f: a step at a, and behind it what comes next
 -- never: no family of numbers is wide
+-- OrWide refuses wide a r: the step refuses with r, or a number of a family passes its bound and r says so
 -- Answers refuses passes step: the program's answer at a step
 -- IfPassed step P: what holds of a value that passed
 use Rattle.std.specs.Prelude.{◌≡◌, ◌⊎◌, ℕ}
@@ -19,6 +20,10 @@ After {A} {B} refuses wide passes next a f =
 -- no family of numbers is wide
 abbrev pub never : {A : Type 0} → A → ℕ → Type 0
 never a k = ⊥
+
+-- a refusal of the step, or that a number of a family passes its bound
+abbrev pub OrWide : {A : Type 0} → (A → Refusal → Type 0) → (A → ℕ → Type 0) → A → Refusal → Type 0
+OrWide refuses wide a r = refuses a r ⊎ ((k : ℕ) × wide a k × (r ≡ refusal.Wide k))
 
 -- the program's answer at a step: a refusal that the step gives, or a value that passes it
 abbrev pub Answers : {B : Type 0} → (Refusal → Type 0) → (B → Type 0) → Step B → Type 0

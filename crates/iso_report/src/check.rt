@@ -1,14 +1,19 @@
 // The report of `check`.
-ghost use Rattle.std.specs.Prelude.{◌≡◌, ◌≤◌, ◌++◌, [], IfOk, OnOk, length, flat_map, codes, decimal};
+ghost use Rattle.std.specs.Prelude.{◌≡◌, ◌++◌, [], IfOk, OnOk, length, map, flat_map, codes};
 ghost use Rattle.space_ops.specs.Lattice.{centrings_of};
 ghost use Rattle.space_ops.specs.OpText.{text_of};
+ghost use Rattle.super_group.specs.Quotient.{order_of};
 ghost use Rattle.iso_report.specs.Check.{first_line, lattice_line, listed_line, supercell_line, check_text};
+ghost use Rattle.iso_report.specs.Held.{facts_in};
+ghost use Rattle.iso_report.specs.HeldFiles.{AreInducedHeld};
 ghost use Rattle.iso_text.specs.Lines.{line};
 
-use crate::context::Divided;
+use crate::context::InducedFile;
+use crate::irrep_report::irreps_text;
 use iso_text::{NoMemory, Text};
 use space_ops::{Group, Lattice, Op};
 use std::alloc::Global;
+use super_group::Quotient;
 
 // The first line, without its line feed.
 fn first_line(alloc: Global, format: u8) -> Result<Text, NoMemory>
@@ -75,20 +80,44 @@ fn push_listed(alloc: Global, text: &mut Text, group: &Group) -> Result<(), NoMe
     Ok(())
 }
 
-/// The report of `check` on a parent group and its quotient: the lattice, the operations, the
-/// multipliers of the supercell and the order of the quotient.
-pub fn check_report(alloc: Global, divided: &Divided) -> Result<Text, NoMemory>
-    ensures { IfOk result (λ text. text ≡ check_text divided.now) }
+// The lines of the file's format and of the lattice.
+fn head_text(alloc: Global, format: u8, group: &Group) -> Result<Text, NoMemory>
+    ensures { IfOk result (λ text. text ≡ line (first_line format) (line (lattice_line group.now.lattice (length (centrings_of group.now.lattice)) (length group.now.ops)) [])) }
 {
-    let quotient = &divided.quotient;
-    let group = quotient.group();
-    let lattice = group.lattice();
     let rotations = group.len();
-    let mut text = first_line(alloc, divided.document.format())?;
+    let mut text = first_line(alloc, format)?;
     text.push(b"\n")?;
-    text.push(lattice_text(alloc, lattice, rotations)?.as_slice())?;
+    text.push(lattice_text(alloc, group.lattice(), rotations)?.as_slice())?;
     text.push(b"\n")?;
+    Ok(text)
+}
+
+// The whole report, by the lines of the irreps.
+fn report_of(
+    alloc: Global,
+    format: u8,
+    quotient: &Quotient,
+    irreps: &Text,
+) -> Result<Text, NoMemory>
+    ensures { IfOk result (λ text. text ≡ line (first_line format) (line (lattice_line quotient.now.parent.lattice (length (centrings_of quotient.now.parent.lattice)) (length quotient.now.parent.ops))
+        (flat_map listed_line quotient.now.parent.ops ++ supercell_line quotient.now.d (order_of quotient.now) ++ irreps.now))) }
+{
+    let group = quotient.group();
+    let mut text = head_text(alloc, format, group)?;
     push_listed(alloc, &mut text, group)?;
     text.push(supercell_text(alloc, quotient.d(), quotient.order())?.as_slice())?;
+    text.push(irreps.as_slice())?;
     Ok(text)
+}
+
+/// The report of `check`: the lattice, the operations, the multipliers of the supercell and the
+/// order of the quotient, and each irrep with its arms.
+pub fn check_report(alloc: Global, file: &InducedFile) -> Result<Text, NoMemory>
+    requires { AreInducedHeld file.now }
+    ensures { IfOk result (λ text. text ≡ check_text file.now.divided (map facts_in file.now.irreps.items)) }
+{
+    let irreps = irreps_text(alloc, file)?;
+    let quotient = file.divided.quotient();
+    let format = file.divided.document().format();
+    report_of(alloc, format, quotient, &irreps)
 }

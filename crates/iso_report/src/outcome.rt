@@ -1,39 +1,88 @@
 // A job over a file's bytes.
 ghost use Rattle.std.specs.Prelude.{◌≡◌, ◌≤◌, length, IfOk, IsErrOf, MatchResult};
 ghost use Rattle.iso_report.specs.Endings.{RunIsDone, RunFails, change};
-ghost use Rattle.iso_report.specs.Found.{finding_of};
-ghost use Rattle.iso_report.specs.Outcome.{IsFoundIn, IsOutcome};
+ghost use Rattle.iso_report.specs.Found.{Finds};
+ghost use Rattle.iso_text.specs.Ranges.{IsInRange};
+ghost use Rattle.iso_report.specs.HeldFiles.{AreStarsHeld, AreCellsHeld, AreRepsHeld};
+ghost use Rattle.iso_report.specs.Outcome.{IsFoundIn, AfterText, AfterParent, AfterPhases, AfterOrder, AfterReps, IsOutcome};
 
+use crate::context::{Celled, Parented, Represented, Starred};
 use crate::division::divide;
 use crate::found::{Found, report_text};
+use crate::induction::induced_of;
 use crate::job::Job;
 use crate::parent::parent_of;
-use crate::reading::{built_file, read_file};
+use crate::reading::read_file;
 use crate::refusal::{Refusal, RunError};
+use crate::rep::reps_of;
 use crate::sign_outcome::first_listing;
+use crate::star::stars_of;
 use crate::step::Step;
-use iso_text::{MAX_BYTES, NoMemory, Sink, put_all};
+use iso_text::{Document, MAX_BYTES, NoMemory, Sink, put_all};
 use std::alloc::Global;
+
+// What is found behind the small representations.
+fn after_reps(alloc: Global, represented: Represented) -> Result<Step<Found>, NoMemory>
+    requires { AreRepsHeld represented }
+    ensures { IfOk result (Finds (AfterReps Job.Check represented.divided)) }
+{
+    match induced_of(alloc, represented)? {
+        Step::Passed(file) => Ok(Step::Passed(Found::Checked(file))),
+        Step::Refused(refusal) => Ok(Step::Refused(refusal)),
+    }
+}
+
+// What is found behind the quotient.
+fn after_order(alloc: Global, celled: Celled) -> Result<Step<Found>, NoMemory>
+    requires { AreCellsHeld celled }
+    ensures { IfOk result (Finds (AfterOrder Job.Check celled.divided)) }
+{
+    match reps_of(alloc, celled)? {
+        Step::Passed(represented) => after_reps(alloc, represented),
+        Step::Refused(refusal) => Ok(Step::Refused(refusal)),
+    }
+}
+
+// What is found behind the wave vectors.
+fn after_phases(alloc: Global, starred: Starred) -> Result<Step<Found>, NoMemory>
+    requires { AreStarsHeld starred }
+    ensures { IfOk result (Finds (AfterPhases Job.Check starred.parented)) }
+{
+    match divide(alloc, starred)? {
+        Step::Passed(celled) => after_order(alloc, celled),
+        Step::Refused(refusal) => Ok(Step::Refused(refusal)),
+    }
+}
+
+// What is found behind the parent group.
+fn after_parent(alloc: Global, parented: Parented) -> Result<Step<Found>, NoMemory>
+    requires { IsInRange parented.file }
+    ensures { IfOk result (Finds (AfterParent Job.Check parented)) }
+{
+    match stars_of(alloc, parented)? {
+        Step::Passed(starred) => after_phases(alloc, starred),
+        Step::Refused(refusal) => Ok(Step::Refused(refusal)),
+    }
+}
+
+// What is found behind the text.
+fn after_text(alloc: Global, document: Document) -> Result<Step<Found>, NoMemory>
+    requires { IsInRange document }
+    ensures { IfOk result (Finds (AfterText Job.Check document)) }
+{
+    match parent_of(alloc, document)? {
+        Step::Passed(parented) => after_parent(alloc, parented),
+        Step::Refused(refusal) => Ok(Step::Refused(refusal)),
+    }
+}
 
 // What the steps find for `check`.
 fn check(alloc: Global, bytes: &[u8]) -> Result<Step<Found>, NoMemory>
     requires { length bytes.now ≤ MAX_BYTES }
-    ensures { IfOk result (λ step. IsFoundIn Job.Check bytes.now (finding_of step)) }
+    ensures { IfOk result (Finds (IsFoundIn Job.Check bytes.now)) }
 {
-    let document = match read_file(alloc, bytes)? {
-        Step::Passed(document) => document,
-        Step::Refused(refusal) => return Ok(Step::Refused(refusal)),
-    };
-    let built = match built_file(document) {
-        Step::Passed(built) => built,
-        Step::Refused(refusal) => return Ok(Step::Refused(refusal)),
-    };
-    let parented = match parent_of(alloc, built)? {
-        Step::Passed(parented) => parented,
-        Step::Refused(refusal) => return Ok(Step::Refused(refusal)),
-    };
-    match divide(alloc, parented)? {
-        Step::Passed(divided) => Ok(Step::Passed(Found::Checked(divided))),
+    match read_file(alloc, bytes)? {
+        Step::Passed(document) => after_text(alloc, document),
         Step::Refused(refusal) => Ok(Step::Refused(refusal)),
     }
 }
@@ -41,7 +90,7 @@ fn check(alloc: Global, bytes: &[u8]) -> Result<Step<Found>, NoMemory>
 // What the definitions say for a job and a file's bytes.
 fn find(alloc: Global, job: &Job, bytes: &[u8]) -> Result<Step<Found>, NoMemory>
     requires { length bytes.now ≤ MAX_BYTES }
-    ensures { IfOk result (λ step. IsOutcome job.now bytes.now (finding_of step)) }
+    ensures { IfOk result (Finds (IsOutcome job.now bytes.now)) }
 {
     match job {
         Job::Check => check(alloc, bytes),

@@ -1,7 +1,7 @@
-// The first steps of the work: the text, and what is built of files so far.
-ghost use Rattle.std.specs.Prelude.{◌≡◌, ◌≤◌, length, IfOk};
+// The first step of the work: the text.
+ghost use Rattle.std.specs.Prelude.{◌≤◌, length, IfOk};
 ghost use Rattle.iso_text.specs.Ranges.{IsInRange};
-ghost use Rattle.iso_report.specs.Stages.{RefusesText, IsRead, RefusesUnbuilt, IsBuilt};
+ghost use Rattle.iso_report.specs.Stages.{RefusesText, IsRead};
 ghost use Rattle.iso_report.specs.Steps.{Answers, IfPassed};
 
 use crate::refusal::Refusal;
@@ -19,16 +19,5 @@ pub fn read_file(alloc: Global, bytes: &[u8]) -> Result<Step<Document>, NoMemory
         Ok(document) => Ok(Step::Passed(document)),
         Err(ReadError::BadText(n)) => Ok(Step::Refused(Refusal::BadText(n))),
         Err(ReadError::NoMemory) => Err(NoMemory),
-    }
-}
-
-/// The file, where it has no irrep.
-pub fn built_file(document: Document) -> Step<Document>
-    ensures { Answers (RefusesUnbuilt document) (IsBuilt document) result }
-{
-    if document.irreps().is_empty() {
-        Step::Passed(document)
-    } else {
-        Step::Refused(Refusal::NotBuilt)
     }
 }

@@ -1,8 +1,10 @@
 // Why a file is refused, and why a run stops.
-ghost use Rattle.std.specs.Prelude.{◌≡◌, ◌++◌, IfOk, codes, decimal};
-ghost use Rattle.iso_report.specs.Report.{line_of, refusal_text};
+ghost use Rattle.std.specs.Prelude.{◌≡◌, IfOk};
+ghost use Rattle.iso_report.specs.Report.{irrep_words, line_words, line_of, refusal_text};
 
-use iso_text::{Name, NoMemory, Text};
+use crate::fraction::fraction_text;
+use cyclo24::K24;
+use iso_text::{Frac, Name, NoMemory, Text};
 use space_ops::Op;
 use std::alloc::Global;
 use thiserror::Error;
@@ -21,10 +23,29 @@ pub enum Refusal {
     TooManyRotations,
     /// A word over the generators is a pure translation outside the lattice.
     ExtraTranslation,
+    /// A phase of the wave vector of the irrep of this name, which is no multiple of 1/24: the first
+    /// k.c over the centring vectors c, in lowest terms.
+    BadPhase(Name, Frac),
     /// The order of the group modulo the supercell of the wave vectors, which is past 6,144.
     TooLargeGroup(u64),
-    /// The values of these two operations don't multiply; the first such pair of the irrep.
+    /// The operation of the `mat` line of this number isn't in the little group.
+    NotLittle(u32),
+    /// An earlier `mat` line of the irrep has the rotation of the line of this number.
+    RotationTwice(u32),
+    /// The irrep has no matrix for this listed operation, the first such.
+    RotationMissing(Name, Op),
+    /// The matrix of the identity isn't the unit matrix.
+    NotUnit(Name),
+    /// The matrices of these two operations don't multiply; the first such pair of the irrep.
     NotMultiplying(Name, Op, Op),
+    /// The character sum of the irrep, and the number of rotations of the little group, which it
+    /// isn't.
+    NotIrreducible(Name, K24, u32),
+    /// The real dimension of the irrep, which is past 24.
+    TooManyDimensions(Name, u32),
+    /// The given vector of the line of this number has so many numbers, and the representation so
+    /// many dimensions.
+    VectorSize(u32, u32, u32),
     /// The irrep of this name has more fixed subspaces than this limit.
     TooManySubspaces(Name, u32),
     /// A number of this family of numbers passes 126 bits.
@@ -47,18 +68,25 @@ pub enum RunError {
     NoMemory,
 }
 
-// The text of a pair of operations whose values don't multiply.
-fn not_multiplying_text(alloc: Global, name: &Name, a: Op, b: Op) -> Result<Text, NoMemory>
-    ensures { IfOk result (λ text. text ≡ refusal_text (Refusal.NotMultiplying name.now a b)) }
+// The name of an irrep, and what is wrong there.
+fn irrep_text(alloc: Global, name: &Name, what: &[u8]) -> Result<Text, NoMemory>
+    ensures { IfOk result (λ text. text ≡ irrep_words name.now what.now) }
 {
     let mut text = Text::new(alloc);
     text.push(b"irrep ")?;
     text.push(name.as_slice())?;
-    text.push(b": matrices of ")?;
-    text.push(a.print(alloc)?.as_slice())?;
-    text.push(b" and ")?;
-    text.push(b.print(alloc)?.as_slice())?;
-    text.push(b" don't multiply")?;
+    text.push(what)?;
+    Ok(text)
+}
+
+// The number of a line, and what is wrong there.
+fn line_text(alloc: Global, n: u32, what: &[u8]) -> Result<Text, NoMemory>
+    ensures { IfOk result (λ text. text ≡ line_words n what.now) }
+{
+    let mut text = Text::new(alloc);
+    text.push(b"line ")?;
+    text.push_number(u64::from(n))?;
+    text.push(what)?;
     Ok(text)
 }
 
@@ -71,14 +99,12 @@ fn plain_text(alloc: Global, bytes: &[u8]) -> Result<Text, NoMemory>
     Ok(text)
 }
 
-// The number of a line, and what is wrong there.
-fn line_text(alloc: Global, n: u32, what: &[u8]) -> Result<Text, NoMemory>
-    ensures { IfOk result (λ text. text ≡ codes "line " ++ decimal n ++ what.now) }
+// The text of a phase that is no multiple of 1/24.
+fn phase_text(alloc: Global, name: &Name, phase: Frac) -> Result<Text, NoMemory>
+    ensures { IfOk result (λ text. text ≡ refusal_text (Refusal.BadPhase name.now phase)) }
 {
-    let mut text = Text::new(alloc);
-    text.push(b"line ")?;
-    text.push_number(n as u64)?;
-    text.push(what)?;
+    let mut text = irrep_text(alloc, name, b": phase ")?;
+    text.push(fraction_text(alloc, phase)?.as_slice())?;
     Ok(text)
 }
 
@@ -93,14 +119,64 @@ fn large_group_text(alloc: Global, order: u64) -> Result<Text, NoMemory>
     Ok(text)
 }
 
+// The text of an operation without a matrix.
+fn missing_text(alloc: Global, name: &Name, op: Op) -> Result<Text, NoMemory>
+    ensures { IfOk result (λ text. text ≡ refusal_text (Refusal.RotationMissing name.now op)) }
+{
+    let mut text = irrep_text(alloc, name, b": no matrix for ")?;
+    text.push(op.print(alloc)?.as_slice())?;
+    Ok(text)
+}
+
+// The text of a pair of operations whose matrices don't multiply.
+fn not_multiplying_text(alloc: Global, name: &Name, a: Op, b: Op) -> Result<Text, NoMemory>
+    ensures { IfOk result (λ text. text ≡ refusal_text (Refusal.NotMultiplying name.now a b)) }
+{
+    let mut text = irrep_text(alloc, name, b": matrices of ")?;
+    text.push(a.print(alloc)?.as_slice())?;
+    text.push(b" and ")?;
+    text.push(b.print(alloc)?.as_slice())?;
+    text.push(b" don't multiply")?;
+    Ok(text)
+}
+
+// The text of a character sum that isn't the number of rotations.
+fn sum_text(alloc: Global, name: &Name, sum: K24, count: u32) -> Result<Text, NoMemory>
+    ensures { IfOk result (λ text. text ≡ refusal_text (Refusal.NotIrreducible name.now sum count)) }
+{
+    let mut text = irrep_text(alloc, name, b": character sum ")?;
+    text.push(sum.print(alloc)?.as_slice())?;
+    text.push(b", not ")?;
+    text.push_number(u64::from(count))?;
+    Ok(text)
+}
+
+// The text of an irrep with too many dimensions.
+fn dimensions_text(alloc: Global, name: &Name, n: u32) -> Result<Text, NoMemory>
+    ensures { IfOk result (λ text. text ≡ refusal_text (Refusal.TooManyDimensions name.now n)) }
+{
+    let mut text = irrep_text(alloc, name, b": real dimension ")?;
+    text.push_number(u64::from(n))?;
+    text.push(b" is past 24")?;
+    Ok(text)
+}
+
+// The text of a given vector of another size.
+fn vector_text(alloc: Global, n: u32, given: u32, dimension: u32) -> Result<Text, NoMemory>
+    ensures { IfOk result (λ text. text ≡ refusal_text (Refusal.VectorSize n given dimension)) }
+{
+    let mut text = line_text(alloc, n, b": vector of ")?;
+    text.push_number(u64::from(given))?;
+    text.push(b" numbers, not ")?;
+    text.push_number(u64::from(dimension))?;
+    Ok(text)
+}
+
 // The text of an irrep with too many fixed subspaces.
-fn many_subspaces_text(alloc: Global, name: &Name, limit: u32) -> Result<Text, NoMemory>
+fn subspaces_text(alloc: Global, name: &Name, limit: u32) -> Result<Text, NoMemory>
     ensures { IfOk result (λ text. text ≡ refusal_text (Refusal.TooManySubspaces name.now limit)) }
 {
-    let mut text = Text::new(alloc);
-    text.push(b"irrep ")?;
-    text.push(name.as_slice())?;
-    text.push(b": more than ")?;
+    let mut text = irrep_text(alloc, name, b": more than ")?;
     text.push_number(u64::from(limit))?;
     text.push(b" fixed subspaces")?;
     Ok(text)
@@ -126,9 +202,17 @@ fn text_of_refusal(alloc: Global, refusal: &Refusal) -> Result<Text, NoMemory>
         Refusal::BadOperation(n) => line_text(alloc, *n, b": determinant isn't 1 or -1"),
         Refusal::TooManyRotations => plain_text(alloc, b"too many rotations"),
         Refusal::ExtraTranslation => plain_text(alloc, b"extra translation"),
+        Refusal::BadPhase(name, phase) => phase_text(alloc, name, *phase),
         Refusal::TooLargeGroup(order) => large_group_text(alloc, *order),
+        Refusal::NotLittle(n) => line_text(alloc, *n, b": not in the little group"),
+        Refusal::RotationTwice(n) => line_text(alloc, *n, b": rotation given twice"),
+        Refusal::RotationMissing(name, op) => missing_text(alloc, name, *op),
+        Refusal::NotUnit(name) => irrep_text(alloc, name, b": identity isn't the unit matrix"),
         Refusal::NotMultiplying(name, a, b) => not_multiplying_text(alloc, name, *a, *b),
-        Refusal::TooManySubspaces(name, limit) => many_subspaces_text(alloc, name, *limit),
+        Refusal::NotIrreducible(name, sum, count) => sum_text(alloc, name, *sum, *count),
+        Refusal::TooManyDimensions(name, n) => dimensions_text(alloc, name, *n),
+        Refusal::VectorSize(n, given, dimension) => vector_text(alloc, *n, *given, *dimension),
+        Refusal::TooManySubspaces(name, limit) => subspaces_text(alloc, name, *limit),
         Refusal::Wide(family) => wide_text(alloc, *family),
         Refusal::NotBuilt => plain_text(alloc, b"not built"),
     }

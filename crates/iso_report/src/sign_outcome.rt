@@ -1,7 +1,7 @@
 // The listing of the files of one sign representation.
 ghost use Rattle.std.specs.Prelude.{◌≡◌, ◌≤◌, [], length, IfOk, Some, slice_get};
-ghost use Rattle.iso_report.specs.Found.{finding_of};
-ghost use Rattle.iso_report.specs.Steps.{After, never};
+ghost use Rattle.iso_report.specs.Found.{finding_of, IsFoundHeld};
+ghost use Rattle.iso_report.specs.Steps.{After, never, IfPassed};
 ghost use Rattle.iso_report.specs.SignFile.{operations_of};
 ghost use Rattle.iso_report.specs.SignOutcome.{RefusesLaw, IsLawful, IsListed, IsFirstListing};
 ghost use Rattle.iso_report.specs.SignSeen.{seen};
@@ -22,7 +22,8 @@ use std::alloc::Global;
 fn listing_of(alloc: Global, file: SignFile) -> Result<Step<Found>, NoMemory>
     requires each { length file.values ≡ length (operations_of file.symbol) }
     requires identity { slice_get file.values 0 ≡ Some Sign.Plus }
-    ensures { IfOk result (λ step. After RefusesLaw never IsLawful IsListed file (finding_of step)) }
+    ensures finding { IfOk result (λ step. After RefusesLaw never IsLawful IsListed file (finding_of step)) }
+    ensures held { IfOk result (λ step. IfPassed step IsFoundHeld) }
 {
     let operations = file.symbol.operations();
     let values = file.values.as_slice();
@@ -37,7 +38,8 @@ fn listing_of(alloc: Global, file: SignFile) -> Result<Step<Found>, NoMemory>
 
 /// What the definitions say for `list`.
 pub fn first_listing(alloc: Global, bytes: &[u8]) -> Result<Step<Found>, NoMemory>
-    ensures { IfOk result (λ step. IsFirstListing bytes.now (finding_of step)) }
+    ensures finding { IfOk result (λ step. IsFirstListing bytes.now (finding_of step)) }
+    ensures held { IfOk result (λ step. IfPassed step IsFoundHeld) }
 {
     match read(alloc, bytes)? {
         Some(file) => listing_of(alloc, file),

@@ -4,12 +4,11 @@
 -- entry-value: the entries of the matrices as values
 -- flip_first, flip_second: the sign of a digit, by cases
 -- flip_row: a row of zeros but for one sign
-use Rattle.std.proofs.Common.{◌≡◌, refl, sym, ap, ◌∙◌, subst, ℕ, zero, suc, ◌<◌, ◌≤◌, ◌+◌, ◌-◌, ◌*◌, ◌^◌, ◌%◌, ◌⊎◌, inl, inr, Bool, true, false, ℤ, List, [], ◌∷◌, length, set, map, get_or, nat_eq, if◌then◌else◌, arith}
-use Rattle.std.specs.Int.Bits.{bit_xor, xor_self, xor_zero_l, xor_zero_r, xor_assoc, xor_shifted}
+use Rattle.std.proofs.Common.{◌≡◌, refl, sym, ap, ◌∙◌, subst, ℕ, zero, suc, ◌<◌, ◌+◌, ◌-◌, ◌*◌, ◌^◌, ◌%◌, ◌⊎◌, inl, inr, Bool, true, false, List, [], ◌∷◌, nat_eq, if◌then◌else◌, arith}
+use Rattle.std.specs.Int.Bits.{bit_xor, xor_self, xor_zero_l, xor_assoc, xor_shifted}
 use Rattle.std.specs.Int.{bit_at}
 use Rattle.std.proofs.lemmas.Nat.{xor_lt, pow_pos, pow_below}
 use Rattle.std.proofs.lemmas.Nat.Bits.{bit_at-zero, bit_at_xor}
-use Rattle.std.proofs.lemmas.List.{get_or-map, get_or-set_same, get_or-set_other, map-set, length-set}
 use mathlib.Core.Bool.{Bool-set}
 use Rattle.algebra.specs.NumberedGroup.{IsGroup, IsGenerated, AllBelow, word}
 use Rattle.cyclo24.specs.ExactField.{ExactField, Value}
@@ -18,7 +17,6 @@ use Rattle.cyclo24.specs.SumLaws.{one-term}
 use Rattle.lin_alg.specs.Action.{IsAction, entry_of, lift, lift_by}
 use Rattle.lin_alg.specs.EquationLaws.{dec, eq-self, eq-other}
 use Rattle.lin_alg.specs.Matrices.{AreEqualBelow, unit_entry, IsRepresentation, mul}
-use Rattle.lin_alg.specs.Rows.{vector}
 use Rattle.lattice_tests.specs.Flips.{flip_group, flip_sign, flip_entry, flips}
 
 double : (n : ℕ) → 2 ^ suc n ≡ 2 ^ n + 2 ^ n

@@ -1,7 +1,7 @@
 -- The prism's action is lawful: its tests compute.
 --
 -- prism_lawful: the laws of an action
-use Rattle.std.proofs.Common.{ℕ, List, [], ◌∷◌, get_or, refl}
+use Rattle.std.proofs.Common.{ℕ, [], ◌∷◌, get_or, refl}
 use Rattle.cyclo24.specs.ExactField.{ExactField}
 use Rattle.lin_alg.specs.Action.{IsAction}
 use Rattle.lattice_tests.specs.Prisms.{prism}

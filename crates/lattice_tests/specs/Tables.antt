@@ -53,17 +53,17 @@ abbrev pub has_step : Tables → (ℕ → ℕ × ℕ) → ℕ → Bool
 has_step t words a =
     nat_eq a 0 || (ltb (words a).0 (length t.generators) && (ltb (words a).1 a && nat_eq (get_or t.product (generator_of t (words a).0 * t.order + (words a).1) 0) a))
 
--- the laws of a group that acts, each as a test
+-- the laws of a group that acts, each as a test; those of products for a generator as the first factor
 pub record AreLawful (t : Tables) (words : ℕ → ℕ × ℕ) : Type 0 where
   pub some : ltb 0 t.order ≡ true
   pub products : all_below t.order (λ a. all_below t.order (λ b. ltb ((group_of t).product a b) t.order)) ≡ true
   pub inverses : all_below t.order (λ a. ltb ((group_of t).inverse a) t.order) ≡ true
   pub identity : all_below t.order (λ a. nat_eq ((group_of t).product 0 a) a) ≡ true
   pub back : all_below t.order (λ a. nat_eq ((group_of t).product ((group_of t).inverse a) a) 0) ≡ true
-  pub associates : all_below t.order (λ a. all_below t.order (λ b. all_below t.order (λ c.
-      nat_eq ((group_of t).product ((group_of t).product a b) c) ((group_of t).product a ((group_of t).product b c))))) ≡ true
+  pub associates : all_below (length t.generators) (λ i. all_below t.order (λ b. all_below t.order (λ c.
+      nat_eq ((group_of t).product ((group_of t).product (generator_of t i) b) c) ((group_of t).product (generator_of t i) ((group_of t).product b c))))) ≡ true
   pub generators : all_below (length t.generators) (λ i. ltb (generator_of t i) t.order) ≡ true
   pub steps : all_below t.order (has_step t words) ≡ true
   pub unit : all_below t.dim (λ i. all_below t.dim (λ j. int_eq (entry_at t 0 i j) (if nat_eq i j then pos 1 else pos 0))) ≡ true
-  pub multiplies : all_below t.order (λ a. all_below t.order (λ b. all_below t.dim (λ i. all_below t.dim (λ j.
-      int_eq (entry_at t ((group_of t).product a b) i j) (whole_sum t.dim (λ k. entry_at t a i k *ℤ entry_at t b k j)))))) ≡ true
+  pub multiplies : all_below (length t.generators) (λ g. all_below t.order (λ b. all_below t.dim (λ i. all_below t.dim (λ j.
+      int_eq (entry_at t ((group_of t).product (generator_of t g) b) i j) (whole_sum t.dim (λ k. entry_at t (generator_of t g) i k *ℤ entry_at t b k j)))))) ≡ true

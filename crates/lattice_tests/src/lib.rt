@@ -6,11 +6,17 @@
 mod flips;
 #[cfg(test)]
 mod listings;
+#[cfg(test)]
+mod octahedron;
+#[cfg(test)]
+mod octahedron_tables;
+#[cfg(test)]
 mod prism;
 #[cfg(test)]
 mod subspaces;
+#[cfg(test)]
 mod tables;
+#[cfg(test)]
+mod tetrahedron;
+#[cfg(test)]
 mod writing;
-
-pub use prism::Prism;
-pub use tables::{PRISM_ENTRIES, PRISM_GENERATORS, PRISM_INVERSE, PRISM_PRODUCT};

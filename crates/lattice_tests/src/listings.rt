@@ -1,8 +1,10 @@
 // Listings worked out by hand, in both orders, and their pages.
 ghost use Rattle.std.specs.Prelude.{◌≡◌, ◌<◌, ◌≤◌};
 
-use crate::Prism;
 use crate::flips::{Flips, flips_of_two};
+use crate::octahedron::Octahedron;
+use crate::prism::Prism;
+use crate::tetrahedron::Tetrahedron;
 use class_list::{Direction, Listing, Order, listing, stabiliser};
 use cyclo24::{Field, K24};
 use fix_lattice::close;
@@ -206,5 +208,63 @@ fn only_the_identity_fixes_all(rt: HostRuntime) -> Result<(), Fail> {
     let none = Echelon::<K24>::new(rt.alloc(), 4);
     let elements = stabiliser(rt.alloc(), &Prism, &none)?;
     assert!(rt; elements.as_slice() == [0].as_slice());
+    Ok(())
+}
+
+// The four directions of the tetrahedron's rotations, in both orders: the zero vector, a diagonal, an
+// axis, all.
+fn lists_tetrahedron(listing: &Listing<K24>) -> bool {
+    are_expected(
+        listing,
+        3,
+        &[
+            wanted(&ALL, &[[1, 0, 0, 0], [0, 1, 0, 0], [0, 0, 1, 0]]),
+            wanted(&[0, 4, 8], &[[-1, 1, 0, 0], [-1, 0, 1, 0]]),
+            wanted(&[0, 1], &[[0, 1, 0, 0], [0, 0, 1, 0]]),
+            wanted(&[0], &[]),
+        ],
+    )
+}
+
+#[test]
+fn tetrahedron_in_both_orders(rt: HostRuntime) -> Result<(), Fail> {
+    for order in [Order::Dimension, Order::Index] {
+        let listing = listing_of::<K24, Tetrahedron>(rt.alloc(), &Tetrahedron, order).ok_or(
+            "none",
+        )?;
+        assert!(rt; lists_tetrahedron(&listing));
+    }
+    Ok(())
+}
+
+const WHOLE: [usize; 48] = [
+    0, 1, 2, 3, 4, 5, 6, 7, 8, 9, 10, 11, 12, 13, 14, 15, 16, 17, 18, 19, 20, 21, 22, 23, 24, 25,
+    26, 27, 28, 29, 30, 31, 32, 33, 34, 35, 36, 37, 38, 39, 40, 41, 42, 43, 44, 45, 46, 47,
+];
+
+// The seven directions of the octahedron's group, in both orders: the zero vector, an axis, a diagonal,
+// a diagonal of a face, a mirror plane through one, one through two axes, all.
+fn lists_octahedron(listing: &Listing<K24>) -> bool {
+    are_expected(
+        listing,
+        3,
+        &[
+            wanted(&WHOLE, &[[1, 0, 0, 0], [0, 1, 0, 0], [0, 0, 1, 0]]),
+            wanted(&[0, 2, 4, 6, 40, 42, 44, 46], &[[0, 1, 0, 0], [0, 0, 1, 0]]),
+            wanted(&[0, 8, 16, 24, 32, 40], &[[-1, 1, 0, 0], [-1, 0, 1, 0]]),
+            wanted(&[0, 4, 24, 28], &[[-1, 1, 0, 0], [0, 0, 1, 0]]),
+            wanted(&[0, 32], &[[-1, 0, 1, 0]]),
+            wanted(&[0, 4], &[[0, 0, 1, 0]]),
+            wanted(&[0], &[]),
+        ],
+    )
+}
+
+#[test]
+fn octahedron_in_both_orders(rt: HostRuntime) -> Result<(), Fail> {
+    for order in [Order::Dimension, Order::Index] {
+        let listing = listing_of::<K24, Octahedron>(rt.alloc(), &Octahedron, order).ok_or("none")?;
+        assert!(rt; lists_octahedron(&listing));
+    }
     Ok(())
 }

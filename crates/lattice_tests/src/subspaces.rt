@@ -1,7 +1,11 @@
-// The fixed subspaces of all sign changes of six coordinates: one for each set of coordinates that are 0.
+// Fixed subspaces: of all sign changes of six coordinates, one for each set of coordinates that are 0, and
+// of three groups by tables.
 ghost use Rattle.std.specs.Prelude.{◌≡◌, ◌<◌, ◌≤◌, ◌^◌};
 
 use crate::flips::{Flips, flips_of_six};
+use crate::octahedron::Octahedron;
+use crate::prism::Prism;
+use crate::tetrahedron::Tetrahedron;
 use cyclo24::{Field, K24};
 use fix_lattice::{CloseError, Form, Subspaces, close, mover_row};
 use iso_text::NoMemory;
@@ -12,26 +16,30 @@ use std::sync::ledger::{Blank, Ledger};
 use std::test::Fail;
 
 // Closes with a counter of its own.
-fn close_of(alloc: Global, acts: &Flips, limit: usize) -> Result<Subspaces<K24>, CloseError>
-    requires dim { acts.now.dim ≡ 6 }
-    requires order { 2 ^ acts.now.dim ≡ 64 }
+fn close_of<G: Acts<K24>>(
+    alloc: Global,
+    acts: &G,
+    limit: usize,
+) -> Result<Subspaces<K24>, CloseError>
+    requires dim { (G.action acts.now).dim ≤ 24 }
+    requires order { (G.action acts.now).group.order ≤ 16384 }
     requires some { 0 < limit }
     requires limit { limit ≤ 16384 }
 {
-    close_by::<Brand>(alloc, acts, limit, Blank::new(1))
+    close_by::<G, Brand>(alloc, acts, limit, Blank::new(1))
 }
 
-fn close_by<L: Ledger>(
+fn close_by<G: Acts<K24>, L: Ledger>(
     alloc: Global,
-    acts: &Flips,
+    acts: &G,
     limit: usize,
     blank: Blank,
 ) -> Result<Subspaces<K24>, CloseError>
     requires name { blank.name ≡ L.name }
     requires parts { blank.parts ≡ L.parts }
     requires shares { 0 < blank.parts }
-    requires dim { acts.now.dim ≡ 6 }
-    requires order { 2 ^ acts.now.dim ≡ 64 }
+    requires dim { (G.action acts.now).dim ≤ 24 }
+    requires order { (G.action acts.now).group.order ≤ 16384 }
     requires some { 0 < limit }
     requires limit { limit ≤ 16384 }
 {
@@ -110,4 +118,42 @@ fn rows_of_the_difference(rt: HostRuntime) -> Result<(), Fail> {
     mover_row::<K24, Flips>(&acts, 5, 1, &mut row)?;
     assert!(rt; row == [zero; 6]);
     Ok(())
+}
+
+// Whether there are so many fixed subspaces, each found, and one fewer is refused as too few.
+fn has_just<G: Acts<K24>>(alloc: Global, acts: &G, count: usize) -> bool
+    requires dim { (G.action acts.now).dim ≤ 24 }
+    requires order { (G.action acts.now).group.order ≤ 16384 }
+    requires some { 1 < count }
+    requires limit { count ≤ 16384 }
+{
+    let spaces = match close_of(alloc, acts, count) {
+        Ok(spaces) => spaces,
+        Err(_) => return false,
+    };
+    spaces.len() == count
+        && are_found(&spaces)
+        && matches!(
+            close_of(alloc, acts, count - 1),
+            Err(CloseError::TooManySubspaces)
+        )
+}
+
+// The prism: the zero vector, three lines, two planes of dimension 2, three spaces of dimension 3, all.
+#[test]
+fn spaces_of_the_prism(rt: HostRuntime) {
+    assert!(rt; has_just(rt.alloc(), &Prism, 10));
+}
+
+// The tetrahedron: the zero vector, three axes, four diagonals, all.
+#[test]
+fn spaces_of_the_tetrahedron(rt: HostRuntime) {
+    assert!(rt; has_just(rt.alloc(), &Tetrahedron, 9));
+}
+
+// The octahedron: the zero vector, three axes, four diagonals, six diagonals of faces, nine mirror
+// planes, all.
+#[test]
+fn spaces_of_the_octahedron(rt: HostRuntime) {
+    assert!(rt; has_just(rt.alloc(), &Octahedron, 24));
 }

@@ -13,7 +13,7 @@ fn entry<F: Field>(n: &i8) -> F
 }
 
 // Writes the entries of a table from a place on.
-pub(crate) fn write_row<F: Field>(entries: &[i8], start: usize, into: &mut [F])
+pub fn write_row<F: Field>(entries: &[i8], start: usize, into: &mut [F])
     requires { start + length into.old ≤ length entries.now }
     ensures { (j : ℕ) → j < length into.old → vector F.field.laws F.value into.new j ≡ of_whole F.field.laws (get_or entries.now (start + j) (pos 0)) }
 {

@@ -14,11 +14,11 @@ pub returns-in-Err-clause-wide : goal.returns-in-Err-clause-wide
 returns-in-Err-clause-wide g c e =
     let f = g.F.Field.field in
     let v = g.F.Field.value in
-    let act = g.G.Acts.action c.args.acts.now in
-    let forms = exact_forms f.laws v c.args.spaces.now.forms in
+    let act = g.G.Acts.action c.args.given.now.acts.now in
+    let forms = exact_forms f.laws v c.args.given.now.spaces.now.forms in
     let i = c.loop-i.i in
-    let l : i < length c.args.spaces.now.forms = subst (λ (n : ℕ). i < n) c.len-i-end.ensures c.loop-i-test.true in
-    let m : i < length forms = subst (λ (n : ℕ). i < n) (sym (exact-length f.laws v c.args.spaces.now.forms)) l in
+    let l : i < length c.args.given.now.spaces.now.forms = subst (λ (n : ℕ). i < n) c.len-i-end.ensures c.loop-i-test.true in
+    let m : i < length forms = subst (λ (n : ℕ). i < n) (sym (exact-length f.laws v c.args.given.now.spaces.now.forms)) l in
     let h = c.requires.holds.only i m in
     elim (c.in-Err.ensures.wide (same-error _ _ e)) [
       | inl w ↦ inl w
@@ -29,9 +29,9 @@ pub loop-i-preserved : goal.loop-i-preserved
 loop-i-preserved g c =
     let f = g.F.Field.field in
     let v = g.F.Field.value in
-    let act = g.G.Acts.action c.args.acts.now in
-    let forms = exact_forms f.laws v c.args.spaces.now.forms in
-    let n : length forms ≡ length c.args.spaces.now.forms = exact-length f.laws v c.args.spaces.now.forms in
+    let act = g.G.Acts.action c.args.given.now.acts.now in
+    let forms = exact_forms f.laws v c.args.given.now.spaces.now.forms in
+    let n : length forms ≡ length c.args.given.now.spaces.now.forms = exact-length f.laws v c.args.given.now.spaces.now.forms in
     let i = c.loop-i.i in
     let l : i < length forms = subst (λ (k : ℕ). i < k) (c.len-i-end.ensures ∙ sym n) c.loop-i-test.true in
     let m : c.in-Ok.to < length forms = subst (λ (k : ℕ). c.in-Ok.to < k) (sym n) c.in-Ok.ensures.below in
@@ -40,7 +40,7 @@ loop-i-preserved g c =
     let b : c.loop-i.steps ≤ c.args.steps.now + act.dim * i = c.loop-i.invariant.1 in
     let d : act.dim * (i + 1) ≡ act.dim * i + act.dim = grind arith in (
       subst (λ (xs : List Arrow). AreArrows f.laws act forms c.args.j (i + 1) xs) (sym c.in-Ok-push.ensures.items)
-          (arrows-push f act forms (g.met.G.Acts.lawful c.args.acts.now) c.args.j i c.in-Ok.to c.loop-i.arrows.items c.requires.generator l m e c.loop-i.invariant.0),
+          (arrows-push f act forms (g.met.G.Acts.lawful c.args.given.now.acts.now) c.args.j i c.in-Ok.to c.loop-i.arrows.items c.requires.generator l m e c.loop-i.invariant.0),
       omega (arith, a, b, d),
     )
 
@@ -48,7 +48,7 @@ pub returns-clause-arrows : goal.returns-clause-arrows
 returns-clause-arrows g c =
     let f = g.F.Field.field in
     let v = g.F.Field.value in
-    let act = g.G.Acts.action c.args.acts.now in
-    let forms = exact_forms f.laws v c.args.spaces.now.forms in
-    let l : length forms ≤ c.loop-i.i = subst (λ (k : ℕ). k ≤ c.loop-i.i) (c.len-i-end.ensures ∙ sym (exact-length f.laws v c.args.spaces.now.forms)) c.loop-i-test.false in
+    let act = g.G.Acts.action c.args.given.now.acts.now in
+    let forms = exact_forms f.laws v c.args.given.now.spaces.now.forms in
+    let l : length forms ≤ c.loop-i.i = subst (λ (k : ℕ). k ≤ c.loop-i.i) (c.len-i-end.ensures ∙ sym (exact-length f.laws v c.args.given.now.spaces.now.forms)) c.loop-i-test.false in
     arrows-round f act forms c.args.j c.loop-i.i c.loop-i.arrows.items l c.loop-i.invariant.0

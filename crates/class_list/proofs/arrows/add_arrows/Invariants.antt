@@ -5,6 +5,6 @@ use Rattle.class_list.proofs.arrows.add_arrows.Given as goal
 
 abbrev pub invariant-loop-i : goal.invariant-loop-i
 invariant-loop-i g l =
-    let act = g.G.Acts.action l.acts in
-    AreArrows g.F.Field.field.laws act (exact_forms g.F.Field.field.laws g.F.Field.value l.spaces.forms) l.j l.i l.arrows.items
+    let act = g.G.Acts.action l.given.acts.now in
+    AreArrows g.F.Field.field.laws act (exact_forms g.F.Field.field.laws g.F.Field.value l.given.spaces.now.forms) l.j l.i l.arrows.items
     × (l.steps ≤ l.fn.steps + act.dim * l.i)

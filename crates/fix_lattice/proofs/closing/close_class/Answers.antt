@@ -1,7 +1,9 @@
-use Rattle.std.proofs.Common.{◌≡◌, ◌<◌, ◌≤◌, ◌*◌, ℕ, List, Vec, Global, sym, subst, length, map, arith}
-use Rattle.fix_lattice.specs.Classes.{AreImages}
+use Rattle.fix_lattice.specs.Cuts.{cut_count}
+use Rattle.std.proofs.Common.{◌≡◌, ◌<◌, ◌≤◌, ◌*◌, length, map, arith, ℕ, List, Vec, Global, sym, subst}
 use Rattle.std.proofs.lemmas.List.{length-map}
-use Rattle.fix_lattice.proofs.ClosingLemmas.{images-grown, covered-grown, reached-own, grown-each}
+use Rattle.fix_lattice.specs.Classes.{AreImages}
+use Rattle.fix_lattice.proofs.ImageRowLemmas.{images-grown}
+use Rattle.fix_lattice.proofs.ClosingLemmas.{covered-grown, reached-own, grown-each}
 use Rattle.fix_lattice.proofs.HeldLemmas.{grown-then}
 use Rattle.fix_lattice.specs.Subspaces.{exact_forms}
 use Rattle.fix_lattice.proofs.CostLemmas.{cost-then}
@@ -12,7 +14,7 @@ pub close_images-requires-clause-images : goal.close_images-requires-clause-imag
 close_images-requires-clause-images g c =
     let f = g.F.Field.field in
     let v = g.F.Field.value in
-    let act = g.G.Acts.action c.args.acts.now in
+    let act = g.G.Acts.action c.args.given.now.acts.now in
     let old = exact_forms f.laws v c.args.tables.now.held.keys in
     let mid = exact_forms f.laws v c.cut_each.new.tables.held.keys in
     let n = exact-length f.laws v c.args.tables.now.held.keys in
@@ -30,8 +32,6 @@ pub close_images-requires-clause-short : goal.close_images-requires-clause-short
 close_images-requires-clause-short g c =
     let f = g.F.Field.field in
     let v = g.F.Field.value in
-    let act = g.G.Acts.action c.args.acts.now in
-    let old = exact_forms f.laws v c.args.tables.now.held.keys in
     let mid = exact_forms f.laws v c.cut_each.new.tables.held.keys in
     let n = exact-length f.laws v c.args.tables.now.held.keys in
     let m = exact-length f.laws v c.cut_each.new.tables.held.keys in
@@ -47,7 +47,7 @@ pub cover-requires-clause-covered : goal.cover-requires-clause-covered
 cover-requires-clause-covered g c =
     let f = g.F.Field.field in
     let v = g.F.Field.value in
-    let act = g.G.Acts.action c.args.acts.now in
+    let act = g.G.Acts.action c.args.given.now.acts.now in
     let old = exact_forms f.laws v c.args.tables.now.held.keys in
     let mid = exact_forms f.laws v c.cut_each.new.tables.held.keys in
     let n = exact-length f.laws v c.args.tables.now.held.keys in
@@ -62,7 +62,7 @@ cover-requires-clause-covered g c =
     let k = exact-length f.laws v c.close_images.new.tables.held.keys in
     let grown-2 = c.in_ok-close_images.ensures.grown in
     let longer-2 = grown-2.longer in
-    let law = g.met.G.Acts.lawful c.args.acts.now in
+    let law = g.met.G.Acts.lawful c.args.given.now.acts.now in
     let at_mid : c.args.at < length mid = omega arith in
     let at_new : c.args.at < length new = omega arith in
     covered-grown f act old new c.args.covered.now (grown-then f act old mid new grown grown-2) c.requires.covered
@@ -71,8 +71,6 @@ pub cover-requires-clause-marks : goal.cover-requires-clause-marks
 cover-requires-clause-marks g c =
     let f = g.F.Field.field in
     let v = g.F.Field.value in
-    let act = g.G.Acts.action c.args.acts.now in
-    let old = exact_forms f.laws v c.args.tables.now.held.keys in
     let mid = exact_forms f.laws v c.cut_each.new.tables.held.keys in
     let n = exact-length f.laws v c.args.tables.now.held.keys in
     let m = exact-length f.laws v c.cut_each.new.tables.held.keys in
@@ -86,7 +84,7 @@ cover-requires-clause-marks g c =
     let k = exact-length f.laws v c.close_images.new.tables.held.keys in
     let grown-2 = c.in_ok-close_images.ensures.grown in
     let longer-2 = grown-2.longer in
-    let law = g.met.G.Acts.lawful c.args.acts.now in
+    let law = g.met.G.Acts.lawful c.args.given.now.acts.now in
     let at_mid : c.args.at < length mid = omega arith in
     let at_new : c.args.at < length new = omega arith in
     let within = c.in_ok-close_images.ensures.within in
@@ -97,8 +95,6 @@ pub cover-requires-clause-there : goal.cover-requires-clause-there
 cover-requires-clause-there g c =
     let f = g.F.Field.field in
     let v = g.F.Field.value in
-    let act = g.G.Acts.action c.args.acts.now in
-    let old = exact_forms f.laws v c.args.tables.now.held.keys in
     let mid = exact_forms f.laws v c.cut_each.new.tables.held.keys in
     let n = exact-length f.laws v c.args.tables.now.held.keys in
     let m = exact-length f.laws v c.cut_each.new.tables.held.keys in
@@ -112,7 +108,7 @@ cover-requires-clause-there g c =
     let k = exact-length f.laws v c.close_images.new.tables.held.keys in
     let grown-2 = c.in_ok-close_images.ensures.grown in
     let longer-2 = grown-2.longer in
-    let law = g.met.G.Acts.lawful c.args.acts.now in
+    let law = g.met.G.Acts.lawful c.args.given.now.acts.now in
     let at_mid : c.args.at < length mid = omega arith in
     let at_new : c.args.at < length new = omega arith in
     omega arith
@@ -121,8 +117,7 @@ pub cover-requires-clause-reached : goal.cover-requires-clause-reached
 cover-requires-clause-reached g c =
     let f = g.F.Field.field in
     let v = g.F.Field.value in
-    let act = g.G.Acts.action c.args.acts.now in
-    let old = exact_forms f.laws v c.args.tables.now.held.keys in
+    let act = g.G.Acts.action c.args.given.now.acts.now in
     let mid = exact_forms f.laws v c.cut_each.new.tables.held.keys in
     let n = exact-length f.laws v c.args.tables.now.held.keys in
     let m = exact-length f.laws v c.cut_each.new.tables.held.keys in
@@ -136,7 +131,7 @@ cover-requires-clause-reached g c =
     let k = exact-length f.laws v c.close_images.new.tables.held.keys in
     let grown-2 = c.in_ok-close_images.ensures.grown in
     let longer-2 = grown-2.longer in
-    let law = g.met.G.Acts.lawful c.args.acts.now in
+    let law = g.met.G.Acts.lawful c.args.given.now.acts.now in
     let at_mid : c.args.at < length mid = omega arith in
     let at_new : c.args.at < length new = omega arith in
     let own = reached-own f act law new c.args.at at_new (grown-each f act mid new grown-2 c.args.at at_mid c.in_ok-cut_each.ensures.cut) in
@@ -144,24 +139,24 @@ cover-requires-clause-reached g c =
 
 pub returns-in_err-close_images-clause-cost : goal.returns-in_err-close_images-clause-cost
 returns-in_err-close_images-clause-cost g c =
-    let act = g.G.Acts.action c.args.acts.now in
-    cost-then (act.dim * length c.args.tables.now.pairs.keys) (act.dim * length c.cut_each.new.tables.pairs.keys) (act.dim * length c.close_images.new.tables.pairs.keys) c.args.steps.now c.cut_each.new.steps c.close_images.new.steps c.in_ok-cut_each.ensures.cost c.close_images.ensures.cost
+    let act = g.G.Acts.action c.args.given.now.acts.now in
+    cost-then (act.dim * cut_count (map (λ r. r.items) c.args.tables.now.cuts.items)) (act.dim * cut_count (map (λ r. r.items) c.cut_each.new.tables.cuts.items)) (act.dim * cut_count (map (λ r. r.items) c.close_images.new.tables.cuts.items)) c.args.steps.now c.cut_each.new.steps c.close_images.new.steps c.in_ok-cut_each.ensures.cost c.close_images.ensures.cost
 
 pub returns-in_err-cover-clause-cost : goal.returns-in_err-cover-clause-cost
 returns-in_err-cover-clause-cost g c =
-    let act = g.G.Acts.action c.args.acts.now in
-    cost-then (act.dim * length c.args.tables.now.pairs.keys) (act.dim * length c.cut_each.new.tables.pairs.keys) (act.dim * length c.close_images.new.tables.pairs.keys) c.args.steps.now c.cut_each.new.steps c.close_images.new.steps c.in_ok-cut_each.ensures.cost c.close_images.ensures.cost
+    let act = g.G.Acts.action c.args.given.now.acts.now in
+    cost-then (act.dim * cut_count (map (λ r. r.items) c.args.tables.now.cuts.items)) (act.dim * cut_count (map (λ r. r.items) c.cut_each.new.tables.cuts.items)) (act.dim * cut_count (map (λ r. r.items) c.close_images.new.tables.cuts.items)) c.args.steps.now c.cut_each.new.steps c.close_images.new.steps c.in_ok-cut_each.ensures.cost c.close_images.ensures.cost
 
 pub returns-clause-cost : goal.returns-clause-cost
 returns-clause-cost g c =
-    let act = g.G.Acts.action c.args.acts.now in
-    cost-then (act.dim * length c.args.tables.now.pairs.keys) (act.dim * length c.cut_each.new.tables.pairs.keys) (act.dim * length c.close_images.new.tables.pairs.keys) c.args.steps.now c.cut_each.new.steps c.close_images.new.steps c.in_ok-cut_each.ensures.cost c.close_images.ensures.cost
+    let act = g.G.Acts.action c.args.given.now.acts.now in
+    cost-then (act.dim * cut_count (map (λ r. r.items) c.args.tables.now.cuts.items)) (act.dim * cut_count (map (λ r. r.items) c.cut_each.new.tables.cuts.items)) (act.dim * cut_count (map (λ r. r.items) c.close_images.new.tables.cuts.items)) c.args.steps.now c.cut_each.new.steps c.close_images.new.steps c.in_ok-cut_each.ensures.cost c.close_images.ensures.cost
 
 pub returns-clause-grown : goal.returns-clause-grown
 returns-clause-grown g c =
     let f = g.F.Field.field in
     let v = g.F.Field.value in
-    let act = g.G.Acts.action c.args.acts.now in
+    let act = g.G.Acts.action c.args.given.now.acts.now in
     let old = exact_forms f.laws v c.args.tables.now.held.keys in
     let mid = exact_forms f.laws v c.cut_each.new.tables.held.keys in
     let n = exact-length f.laws v c.args.tables.now.held.keys in
@@ -176,7 +171,7 @@ returns-clause-grown g c =
     let k = exact-length f.laws v c.close_images.new.tables.held.keys in
     let grown-2 = c.in_ok-close_images.ensures.grown in
     let longer-2 = grown-2.longer in
-    let law = g.met.G.Acts.lawful c.args.acts.now in
+    let law = g.met.G.Acts.lawful c.args.given.now.acts.now in
     let at_mid : c.args.at < length mid = omega arith in
     let at_new : c.args.at < length new = omega arith in
     grown-then f act old mid new grown grown-2
@@ -185,8 +180,7 @@ pub returns-clause-reached : goal.returns-clause-reached
 returns-clause-reached g c =
     let f = g.F.Field.field in
     let v = g.F.Field.value in
-    let act = g.G.Acts.action c.args.acts.now in
-    let old = exact_forms f.laws v c.args.tables.now.held.keys in
+    let act = g.G.Acts.action c.args.given.now.acts.now in
     let mid = exact_forms f.laws v c.cut_each.new.tables.held.keys in
     let n = exact-length f.laws v c.args.tables.now.held.keys in
     let m = exact-length f.laws v c.cut_each.new.tables.held.keys in
@@ -200,7 +194,7 @@ returns-clause-reached g c =
     let k = exact-length f.laws v c.close_images.new.tables.held.keys in
     let grown-2 = c.in_ok-close_images.ensures.grown in
     let longer-2 = grown-2.longer in
-    let law = g.met.G.Acts.lawful c.args.acts.now in
+    let law = g.met.G.Acts.lawful c.args.given.now.acts.now in
     let at_mid : c.args.at < length mid = omega arith in
     let at_new : c.args.at < length new = omega arith in
     let own = reached-own f act law new c.args.at at_new (grown-each f act mid new grown-2 c.args.at at_mid c.in_ok-cut_each.ensures.cut) in
@@ -210,5 +204,5 @@ pub cover-requires-clause-images : goal.cover-requires-clause-images
 cover-requires-clause-images g c =
     let f = g.F.Field.field in
     let v = g.F.Field.value in
-    let act = g.G.Acts.action c.args.acts.now in
+    let act = g.G.Acts.action c.args.given.now.acts.now in
     subst (λ (z : List (Vec ℕ Global)). AreImages f.laws act (exact_forms f.laws v c.close_images.new.tables.held.keys) (map (λ r. r.items) z)) (sym c.deref.ensures.value) c.in_ok-close_images.ensures.images

@@ -1,3 +1,4 @@
+use Rattle.fix_lattice.specs.Cuts.{cut_count}
 use Rattle.std.proofs.Common.{◌≡◌, ◌<◌, ◌*◌, ℕ, suc, inl, inr, sym, ◌∙◌, subst, length, map, arith}
 use Rattle.std.proofs.lemmas.List.{length-map}
 use Rattle.lin_alg.specs.RowLaws.{equality-told}
@@ -6,7 +7,7 @@ use Rattle.fix_lattice.specs.Classes.{IsReached}
 use Rattle.fix_lattice.proofs.ClosingLemmas.{closing-classes, reached-grown}
 use Rattle.fix_lattice.specs.Subspaces.{exact_forms}
 use Rattle.fix_lattice.proofs.CostLemmas.{cost-then}
-use Rattle.fix_lattice.proofs.CountLemmas.{pairs-now}
+use Rattle.fix_lattice.proofs.CountLemmas.{cuts-now}
 use Rattle.fix_lattice.proofs.closing.close_classes.Goals as goal
 use Rattle.fix_lattice.specs.FormLaws.{exact-length}
 
@@ -14,11 +15,11 @@ pub loop-at-init : goal.loop-at-init
 loop-at-init g c =
     let f = g.F.Field.field in
     let v = g.F.Field.value in
-    let act = g.G.Acts.action c.args.acts.now in
+    let act = g.G.Acts.action c.args.given.now.acts.now in
     let tells = equality-told f v g.F.PartialEq.eq g.F.Ord.cmp g.met.F.Ord.matches_eq g.met.F.Field.value_cmp in
     let o = c.args.tables.now in
-    let s = c.args.singles.now in
-    let few = pairs-now f v g.F.PartialEq.eq tells act act.dim c.args.limit o.held.keys s.places.items s.elements.items o.pairs.keys o.cuts.items o.sources.items c.requires.held c.requires.closing c.requires.within in
+    let s = c.args.given.now.singles.now in
+    let few = cuts-now f v g.F.PartialEq.eq tells act act.dim c.args.given.now.limit o.held.keys s.places.items s.elements.items (map (λ r. r.items) o.cuts.items) o.sources.items c.requires.held c.requires.closing c.requires.within in
     record {
       held = c.requires.held;
       closing = c.requires.closing;
@@ -36,7 +37,7 @@ pub loop-at-preserved : goal.loop-at-preserved
 loop-at-preserved g c =
     let f = g.F.Field.field in
     let v = g.F.Field.value in
-    let act = g.G.Acts.action c.args.acts.now in
+    let act = g.G.Acts.action c.args.given.now.acts.now in
     let t = c.loop-at.invariant in
     let e = c.in_ok-visit.ensures in
     let old = exact_forms f.laws v c.loop-at.tables.held.keys in
@@ -61,45 +62,45 @@ loop-at-preserved g c =
           ];
       within = e.within;
       few = e.few;
-      cost = cost-then (act.dim * length c.args.tables.now.pairs.keys) (act.dim * length c.loop-at.tables.pairs.keys) (act.dim * length c.visit.new.tables.pairs.keys) c.args.steps.now c.loop-at.steps c.visit.new.steps t.cost e.cost;
+      cost = cost-then (act.dim * cut_count (map (λ r. r.items) c.args.tables.now.cuts.items)) (act.dim * cut_count (map (λ r. r.items) c.loop-at.tables.cuts.items)) (act.dim * cut_count (map (λ r. r.items) c.visit.new.tables.cuts.items)) c.args.steps.now c.loop-at.steps c.visit.new.steps t.cost e.cost;
     }
 
 pub returns-in_err-visit-clause-cost : goal.returns-in_err-visit-clause-cost
 returns-in_err-visit-clause-cost g c =
-    let act = g.G.Acts.action c.args.acts.now in
-    cost-then (act.dim * length c.args.tables.now.pairs.keys) (act.dim * length c.loop-at.tables.pairs.keys) (act.dim * length c.visit.new.tables.pairs.keys) c.args.steps.now c.loop-at.steps c.visit.new.steps c.loop-at.invariant.cost c.in_err-visit.ensures.cost
+    let act = g.G.Acts.action c.args.given.now.acts.now in
+    cost-then (act.dim * cut_count (map (λ r. r.items) c.args.tables.now.cuts.items)) (act.dim * cut_count (map (λ r. r.items) c.loop-at.tables.cuts.items)) (act.dim * cut_count (map (λ r. r.items) c.visit.new.tables.cuts.items)) c.args.steps.now c.loop-at.steps c.visit.new.steps c.loop-at.invariant.cost c.in_err-visit.ensures.cost
 
 pub returns-then-at-len-clause-closed : goal.returns-then-at-len-clause-closed
 returns-then-at-len-clause-closed g c =
     let f = g.F.Field.field in
     let v = g.F.Field.value in
-    let act = g.G.Acts.action c.args.acts.now in
+    let act = g.G.Acts.action c.args.given.now.acts.now in
     let t = c.loop-at.invariant in
     let o = c.loop-at.tables in
-    let s = c.args.singles.now in
+    let s = c.args.given.now.singles.now in
     let n = exact-length f.laws v o.held.keys in
     let images = map (λ r. r.items) c.loop-at.images.items in
     let rows : length images ≡ length c.loop-at.images.items = length-map c.loop-at.images.items (λ r. r.items) in
     let all = t.all in
     let within = t.within in
-    let law = g.met.G.Acts.lawful c.args.acts.now in
+    let law = g.met.G.Acts.lawful c.args.given.now.acts.now in
     let len = c.len.ensures.len in
-    closing-classes f act law (exact_forms f.laws v o.held.keys) s.places.items s.elements.items o.pairs.keys o.cuts.items o.sources.items images t.closing t.images (omega arith)
+    closing-classes f act law (exact_forms f.laws v o.held.keys) s.places.items s.elements.items (map (λ r. r.items) o.cuts.items) o.sources.items images t.closing t.images (omega arith)
     (λ i l. let b : i < c.loop-at.at = omega (arith, l, c.if-at-len.true) in (t.reached i b).1)
 
 pub returns-clause-closed : goal.returns-clause-closed
 returns-clause-closed g c =
     let f = g.F.Field.field in
     let v = g.F.Field.value in
-    let act = g.G.Acts.action c.args.acts.now in
+    let act = g.G.Acts.action c.args.given.now.acts.now in
     let t = c.loop-at.invariant in
     let o = c.loop-at.tables in
-    let s = c.args.singles.now in
+    let s = c.args.given.now.singles.now in
     let n = exact-length f.laws v o.held.keys in
     let images = map (λ r. r.items) c.loop-at.images.items in
     let rows : length images ≡ length c.loop-at.images.items = length-map c.loop-at.images.items (λ r. r.items) in
     let all = t.all in
     let within = t.within in
-    let law = g.met.G.Acts.lawful c.args.acts.now in
-    closing-classes f act law (exact_forms f.laws v o.held.keys) s.places.items s.elements.items o.pairs.keys o.cuts.items o.sources.items images t.closing t.images (omega arith)
+    let law = g.met.G.Acts.lawful c.args.given.now.acts.now in
+    closing-classes f act law (exact_forms f.laws v o.held.keys) s.places.items s.elements.items (map (λ r. r.items) o.cuts.items) o.sources.items images t.closing t.images (omega arith)
     (λ i l. let b : i < c.loop-at.at = omega (arith, l, c.loop-at-test.false) in (t.reached i b).1)

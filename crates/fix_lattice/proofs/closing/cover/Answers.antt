@@ -1,9 +1,8 @@
 use Rattle.std.proofs.Common.{◌≡◌, ◌<◌, ◌≤◌, ◌⊎◌, ℕ, true, false, List, [], ◌∷◌, ◌++◌, sym, ◌∙◌, subst, length, map, get_or, arith}
 use Rattle.std.proofs.lemmas.List.{length-map}
 use Rattle.fix_lattice.specs.Classes.{AreReached, IsReached, IsOf}
-use Rattle.fix_lattice.proofs.ClosingLemmas.{queue-more}
 use Rattle.fix_lattice.specs.Subspaces.{exact_forms}
-use Rattle.fix_lattice.proofs.ReachLemmas.{covered-after, queue-after, row-inside}
+use Rattle.fix_lattice.proofs.ReachLemmas.{covered-after, queue-after, queue-more, row-inside}
 use Rattle.fix_lattice.proofs.closing.cover.Goals as goal
 use Rattle.fix_lattice.specs.FormLaws.{exact-length}
 use Rattle.fix_lattice.proofs.ListLemmas.{same-default}

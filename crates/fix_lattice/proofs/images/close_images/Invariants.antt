@@ -1,5 +1,6 @@
+use Rattle.fix_lattice.specs.Cuts.{cut_count, AreFewCuts}
 use Rattle.std.proofs.Common.{◌≡◌, ◌≤◌, ◌+◌, ◌*◌, length, map}
-use Rattle.fix_lattice.specs.Classes.{IsClosing, AreImages, AreFewPairs}
+use Rattle.fix_lattice.specs.Classes.{IsClosing, AreImages}
 use Rattle.fix_lattice.specs.Held.{IsGrown}
 use Rattle.fix_lattice.specs.Subspaces.{AreHeld, exact_forms}
 use Rattle.fix_lattice.proofs.images.close_images.Given as goal
@@ -8,15 +9,15 @@ abbrev pub invariant-loop-i : goal.invariant-loop-i
 invariant-loop-i g l =
     let f = g.F.Field.field in
     let v = g.F.Field.value in
-    let act = g.G.Acts.action l.acts in
+    let act = g.G.Acts.action l.given.acts.now in
     record {
       held : AreHeld f.laws v g.F.PartialEq.eq act.dim l.tables.held.keys;
-      closing : IsClosing f.laws act (exact_forms f.laws v l.tables.held.keys) l.singles.places.items l.singles.elements.items l.tables.pairs.keys l.tables.cuts.items l.tables.sources.items;
+      closing : IsClosing f.laws act (exact_forms f.laws v l.tables.held.keys) l.given.singles.now.places.items l.given.singles.now.elements.items (map (λ r. r.items) l.tables.cuts.items) l.tables.sources.items;
       grown : IsGrown (exact_forms f.laws v l.fn.tables.held.keys) (exact_forms f.laws v l.tables.held.keys);
       images : AreImages f.laws act (exact_forms f.laws v l.tables.held.keys) (map (λ r. r.items) l.images.items);
       size : length l.images.items ≡ l.i;
       short : l.i ≤ length l.tables.held.keys;
-      within : length l.tables.held.keys ≤ l.limit;
-      few : AreFewPairs f.laws act l.limit (length l.singles.elements.items) l.tables.pairs.keys;
-      cost : l.steps + act.dim * length l.fn.tables.pairs.keys ≤ l.fn.steps + act.dim * length l.tables.pairs.keys;
+      within : length l.tables.held.keys ≤ l.given.limit;
+      few : AreFewCuts f.laws act l.given.limit (length l.given.singles.now.elements.items) (map (λ r. r.items) l.tables.cuts.items);
+      cost : l.steps + act.dim * cut_count (map (λ r. r.items) l.fn.tables.cuts.items) ≤ l.fn.steps + act.dim * cut_count (map (λ r. r.items) l.tables.cuts.items);
     }

@@ -1,12 +1,13 @@
+use Rattle.fix_lattice.specs.Cuts.{cut_count}
 use Rattle.std.proofs.Common.{◌≡◌, ◌<◌, ◌≤◌, ◌*◌, ℕ, refl, sym, subst, length, map, arith, add-one, suc}
 use Rattle.std.proofs.lemmas.List.{length-map}
 use Rattle.lin_alg.specs.RowLaws.{equality-told}
 use Rattle.fix_lattice.specs.Classes.{IsImageRow}
-use Rattle.fix_lattice.proofs.ClosingLemmas.{row-grown, row-more, images-grown}
+use Rattle.fix_lattice.proofs.ImageRowLemmas.{row-grown, row-more, images-grown}
 use Rattle.fix_lattice.proofs.HeldLemmas.{grown-own, grown-then}
 use Rattle.fix_lattice.specs.Subspaces.{exact_forms}
 use Rattle.fix_lattice.proofs.CostLemmas.{cost-then}
-use Rattle.fix_lattice.proofs.CountLemmas.{pairs-now}
+use Rattle.fix_lattice.proofs.CountLemmas.{cuts-now}
 use Rattle.fix_lattice.proofs.images.image_row.Goals as goal
 use Rattle.fix_lattice.specs.FormLaws.{exact-length}
 
@@ -14,10 +15,10 @@ pub loop-p-init : goal.loop-p-init
 loop-p-init g c =
     let f = g.F.Field.field in
     let v = g.F.Field.value in
-    let act = g.G.Acts.action c.args.acts.now in
+    let act = g.G.Acts.action c.args.given.now.acts.now in
     let tells = equality-told f v g.F.PartialEq.eq g.F.Ord.cmp g.met.F.Ord.matches_eq g.met.F.Field.value_cmp in
     let o = c.args.tables.now in
-    let s = c.args.singles.now in
+    let s = c.args.given.now.singles.now in
     record {
       held = c.requires.held;
       closing = c.requires.closing;
@@ -25,7 +26,7 @@ loop-p-init g c =
       images = c.requires.images;
       found = subst (IsImageRow f.laws act (exact_forms f.laws v o.held.keys) c.args.i 0) (sym c.new-found.ensures.items) (record { size = refl; image = λ p l. absurd (omega arith) });
       within = c.requires.within;
-      few = pairs-now f v g.F.PartialEq.eq tells act act.dim c.args.limit o.held.keys s.places.items s.elements.items o.pairs.keys o.cuts.items o.sources.items c.requires.held c.requires.closing c.requires.within;
+      few = cuts-now f v g.F.PartialEq.eq tells act act.dim c.args.given.now.limit o.held.keys s.places.items s.elements.items (map (λ r. r.items) o.cuts.items) o.sources.items c.requires.held c.requires.closing c.requires.within;
       cost = omega arith;
     }
 
@@ -43,7 +44,7 @@ pub loop-p-preserved : goal.loop-p-preserved
 loop-p-preserved g c =
     let f = g.F.Field.field in
     let v = g.F.Field.value in
-    let act = g.G.Acts.action c.args.acts.now in
+    let act = g.G.Acts.action c.args.given.now.acts.now in
     let t = c.loop-p.invariant in
     let e = c.in_ok-place.ensures in
     let old = exact_forms f.laws v c.loop-p.tables.held.keys in
@@ -70,25 +71,25 @@ loop-p-preserved g c =
           (row-more f act new c.args.i c.loop-p.p c.in_ok-place.place c.loop-p.found.items (row-grown f act old new c.args.i c.loop-p.p c.loop-p.found.items e.grown il t.found) yl e.image));
       within = e.within;
       few = e.few;
-      cost = cost-then (act.dim * length c.args.tables.now.pairs.keys) (act.dim * length c.loop-p.tables.pairs.keys) (act.dim * length c.image_at.new.tables.pairs.keys) c.args.steps.now c.loop-p.steps c.image_at.new.steps t.cost e.cost;
+      cost = cost-then (act.dim * cut_count (map (λ r. r.items) c.args.tables.now.cuts.items)) (act.dim * cut_count (map (λ r. r.items) c.loop-p.tables.cuts.items)) (act.dim * cut_count (map (λ r. r.items) c.image_at.new.tables.cuts.items)) c.args.steps.now c.loop-p.steps c.image_at.new.steps t.cost e.cost;
     }
 
 pub returns-in_err-place-clause-cost : goal.returns-in_err-place-clause-cost
 returns-in_err-place-clause-cost g c =
-    let act = g.G.Acts.action c.args.acts.now in
+    let act = g.G.Acts.action c.args.given.now.acts.now in
     let t = c.loop-p.invariant in
-    cost-then (act.dim * length c.args.tables.now.pairs.keys) (act.dim * length c.loop-p.tables.pairs.keys) (act.dim * length c.image_at.new.tables.pairs.keys) c.args.steps.now c.loop-p.steps c.image_at.new.steps t.cost c.in_err-place.ensures.cost
+    cost-then (act.dim * cut_count (map (λ r. r.items) c.args.tables.now.cuts.items)) (act.dim * cut_count (map (λ r. r.items) c.loop-p.tables.cuts.items)) (act.dim * cut_count (map (λ r. r.items) c.image_at.new.tables.cuts.items)) c.args.steps.now c.loop-p.steps c.image_at.new.steps t.cost c.in_err-place.ensures.cost
 
 pub returns-in_err-push-clause-cost : goal.returns-in_err-push-clause-cost
 returns-in_err-push-clause-cost g c =
-    let act = g.G.Acts.action c.args.acts.now in
+    let act = g.G.Acts.action c.args.given.now.acts.now in
     let t = c.loop-p.invariant in
-    cost-then (act.dim * length c.args.tables.now.pairs.keys) (act.dim * length c.loop-p.tables.pairs.keys) (act.dim * length c.image_at.new.tables.pairs.keys) c.args.steps.now c.loop-p.steps c.image_at.new.steps t.cost c.in_ok-place.ensures.cost
+    cost-then (act.dim * cut_count (map (λ r. r.items) c.args.tables.now.cuts.items)) (act.dim * cut_count (map (λ r. r.items) c.loop-p.tables.cuts.items)) (act.dim * cut_count (map (λ r. r.items) c.image_at.new.tables.cuts.items)) c.args.steps.now c.loop-p.steps c.image_at.new.steps t.cost c.in_ok-place.ensures.cost
 
 pub returns-clause-found : goal.returns-clause-found
 returns-clause-found g c =
     let f = g.F.Field.field in
     let v = g.F.Field.value in
-    let act = g.G.Acts.action c.args.acts.now in
+    let act = g.G.Acts.action c.args.given.now.acts.now in
     let e : c.loop-p.p ≡ act.generators = omega (arith, c.loop-p-test.false, c.loop-p.auto.p-end, c.generators-p-end.ensures) in
     subst (λ (z : ℕ). IsImageRow f.laws act (exact_forms f.laws v c.loop-p.tables.held.keys) c.args.i z c.loop-p.found.items) e c.loop-p.invariant.found

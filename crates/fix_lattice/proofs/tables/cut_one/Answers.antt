@@ -16,7 +16,7 @@ pub cut_form-requires-clause-space : goal.cut_form-requires-clause-space
 cut_form-requires-clause-space g c =
     let f = g.F.Field.field in
     let v = g.F.Field.value in
-    let act = g.G.Acts.action c.args.acts.now in
+    let act = g.G.Acts.action c.args.given.now.acts.now in
     subst (λ (n : ℕ). IsWholeForm f.laws v n c.form.result.now) (sym c.requires.room)
     (whole-at f.laws v act.dim c.args.held.now.keys c.args.at c.form.result.now c.requires.held.whole (c.index.ensures ∙ ap Some (sym c.form.ensures.form)))
 
@@ -24,7 +24,7 @@ pub cut_form-requires-clause-by : goal.cut_form-requires-clause-by
 cut_form-requires-clause-by g c =
     let f = g.F.Field.field in
     let v = g.F.Field.value in
-    let act = g.G.Acts.action c.args.acts.now in
+    let act = g.G.Acts.action c.args.given.now.acts.now in
     subst (λ (n : ℕ). IsWholeForm f.laws v n c.form-2.result.now) (sym c.requires.room)
     (whole-at f.laws v act.dim c.args.held.now.keys c.args.k c.form-2.result.now c.requires.held.whole (c.index-2.ensures ∙ ap Some (sym c.form-2.ensures.form)))
 
@@ -32,7 +32,7 @@ pub returns-in-Err-Wide-clause-wide : goal.returns-in-Err-Wide-clause-wide
 returns-in-Err-Wide-clause-wide g c e =
     let f = g.F.Field.field in
     let v = g.F.Field.value in
-    let act = g.G.Acts.action c.args.acts.now in
+    let act = g.G.Acts.action c.args.given.now.acts.now in
     let keys = c.args.held.now.keys in
     let old = exact_forms f.laws v keys in
     wide-cut f act (length c.args.row.now) (form_at old c.args.at) (form_at old c.args.k) (exact_rows f.laws v c.form.result.now.rows) (exact_rows f.laws v c.form-2.result.now.rows) c.requires.room
@@ -44,7 +44,7 @@ pub returns-clause-cut : goal.returns-clause-cut
 returns-clause-cut g c =
     let f = g.F.Field.field in
     let v = g.F.Field.value in
-    let act = g.G.Acts.action c.args.acts.now in
+    let act = g.G.Acts.action c.args.given.now.acts.now in
     let keys = c.args.held.now.keys in
     let old = exact_forms f.laws v keys in
     let new = exact_forms f.laws v c.put.new.held.keys in
@@ -65,7 +65,7 @@ pub returns-clause-many : goal.returns-clause-many
 returns-clause-many g c e =
     let f = g.F.Field.field in
     let v = g.F.Field.value in
-    let act = g.G.Acts.action c.args.acts.now in
+    let act = g.G.Acts.action c.args.given.now.acts.now in
     let tells = equality-told f v g.F.PartialEq.eq g.F.Ord.cmp g.met.F.Ord.matches_eq g.met.F.Field.value_cmp in
     let keys = c.args.held.now.keys in
     let old = exact_forms f.laws v keys in
@@ -83,6 +83,6 @@ returns-clause-many g c e =
     (whole-at f.laws v act.dim keys c.args.k c.form-2.result.now c.requires.held.whole at_by)
     whole cut many.1.1 in
     let n = exact-length f.laws v keys in
-    held-more f v g.F.PartialEq.eq tells act c.dim.result c.args.limit c.put.new.held.keys c.put.ensures.held many.0
+    held-more f v g.F.PartialEq.eq tells act c.dim.result c.args.given.now.limit c.put.new.held.keys c.put.ensures.held many.0
     (put-all f act (IsFixSpace f.laws act) old new made.0 many.1.0 made.1.1.1 (λ i l. let m : i < length keys = omega arith in c.requires.spaces i m)
     (cut-fixed f act (form_at old c.args.at) (form_at old c.args.k) made.0 (c.requires.spaces c.args.at c.requires.there) c.requires.single made.1.0 made.1.1.0))

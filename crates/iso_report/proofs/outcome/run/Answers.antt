@@ -11,7 +11,7 @@ pub returns-clause-answer : goal.returns-clause-answer
 returns-clause-answer g c =
     let P : List ℕ → Type 0 = λ t. GrownByPrefix t (g.O.Sink.written c.args.out.now) (g.O.Sink.written c.put_all.new.sink) in (
       text_of c.in-Ok-Passed.found,
-      rw c.in-Ok-Passed.field-0-is at c.in-Ok-Passed.ensures,
+      (rw c.in-Ok-Passed.field-0-is at c.in-Ok-Passed.ensures).0,
       subst P (c.as_slice.ensures ∙ c.in-Ok.ensures) c.in-Err-put_all.ensures.err,
       c.in-Err-put_all.ensures.cause,
     )

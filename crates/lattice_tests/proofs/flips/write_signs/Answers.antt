@@ -1,4 +1,4 @@
-use Rattle.std.proofs.Common.{◌≡◌, ℕ, ◌<◌, ◌∙◌, below_more, arith, set, length}
+use Rattle.std.proofs.Common.{◌≡◌, ◌<◌, ◌∙◌, below_more, arith, set, length}
 use Rattle.lin_alg.specs.Rows.{vector}
 use Rattle.lattice_tests.specs.Flips.{flip_entry}
 use Rattle.lattice_tests.proofs.WriteLemmas.{vector-set_same, vector-set_other}

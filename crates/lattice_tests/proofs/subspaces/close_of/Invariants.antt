@@ -1,4 +1,4 @@
 use Rattle.lattice_tests.proofs.subspaces.close_of.Given as goal
 
 abbrev pub ghosts-close_by : goal.ghosts-close_by
-ghosts-close_by a = record { name = a.blank.name; parts = a.blank.parts }
+ghosts-close_by g a = record { name = a.blank.name; parts = a.blank.parts }

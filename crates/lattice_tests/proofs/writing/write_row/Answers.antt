@@ -1,4 +1,4 @@
-use Rattle.std.proofs.Common.{◌≡◌, ℕ, ◌<◌, ◌+◌, ◌∙◌, below_more, arith, set, length, get_or, pos}
+use Rattle.std.proofs.Common.{◌≡◌, ◌<◌, ◌+◌, ◌∙◌, below_more, arith, set, length, get_or, pos}
 use Rattle.cyclo24.specs.Numerals.{of_whole}
 use Rattle.lin_alg.specs.Rows.{vector}
 use Rattle.lattice_tests.proofs.WriteLemmas.{vector-set_same, vector-set_other}

@@ -1,0 +1,101 @@
+// The first vector that fits.
+ghost use Rattle.std.specs.Prelude.{◌≡◌, ◌+◌, map, Some, Err, IfOk, IfSome, IfNone, length};
+ghost use Rattle.std.specs.Option.{option_copied, ForSome};
+ghost use Rattle.cyclo24.specs.K24.{exact24};
+ghost use Rattle.cyclo24.specs.ExactK24.{k24_laws};
+ghost use Rattle.lin_alg.specs.Rows.{exact_rows, HaveWidth};
+ghost use Rattle.lin_alg.specs.declared.errors.LinError.TheVariants as lin_error;
+ghost use Rattle.super_group.specs.Quotient.{order_of};
+ghost use Rattle.induce.specs.Tables.{dimension_in, matrix_in};
+ghost use Rattle.induce.specs.InducedView.{IsInducedOf};
+ghost use Rattle.real_form.specs.Orbits.{FirstOf, NoneOf};
+ghost use Rattle.real_form.specs.RealBasis.{IsBasisOf, FitsNot, IsWideSpans};
+ghost use Rattle.real_form.specs.Candidates.{candidate_vector, candidates_of, tried, ArePowers};
+
+use crate::candidate::{Candidate, candidate_row};
+use crate::candidates::candidates;
+use crate::span::span_of;
+use cyclo24::{K24, Z24};
+use induce::Induced;
+use lin_alg::{Echelon, LinError};
+use std::alloc::Global;
+use super_group::Quotient;
+
+// The form of the span of the orbit of the first vector that fits: the given one alone is tried, or
+// each candidate.
+pub(crate) fn fitting_form(
+    alloc: Global,
+    quotient: &Quotient,
+    induced: &Induced,
+    given: Option<&[Z24]>,
+) -> Result<Option<Echelon<K24>>, LinError>
+    requires of { IsInducedOf quotient.now induced.now }
+    requires given { ForSome given (λ w. length w.now ≡ (dimension_in induced.now.tables)) }
+    ensures some { IfOk result (λ answer. IfSome answer (λ form. FirstOf (IsBasisOf (dimension_in induced.now.tables) (order_of quotient.now) (matrix_in quotient.now induced.now.tables) (exact_rows k24_laws exact24 form.rows)) (FitsNot (dimension_in induced.now.tables) (order_of quotient.now) (matrix_in quotient.now induced.now.tables)) (tried (dimension_in induced.now.tables) (option_copied given.entry)))) }
+    ensures shape { IfOk result (λ answer. IfSome answer (λ form. HaveWidth ((dimension_in induced.now.tables) + (dimension_in induced.now.tables)) form.rows)) }
+    ensures none { IfOk result (λ answer. IfNone answer (NoneOf (FitsNot (dimension_in induced.now.tables) (order_of quotient.now) (matrix_in quotient.now induced.now.tables)) (tried (dimension_in induced.now.tables) (option_copied given.entry)))) }
+    ensures wide { (result ≡ Err lin_error.Wide) → IsWideSpans (dimension_in induced.now.tables) (order_of quotient.now) (matrix_in quotient.now induced.now.tables) (tried (dimension_in induced.now.tables) (option_copied given.entry)) }
+{
+    match given {
+        Some(w) => given_form(alloc, quotient, induced, w),
+        None => candidate_form(alloc, quotient, induced),
+    }
+}
+
+// The same for a given vector.
+fn given_form(
+    alloc: Global,
+    quotient: &Quotient,
+    induced: &Induced,
+    w: &[Z24],
+) -> Result<Option<Echelon<K24>>, LinError>
+    requires of { IsInducedOf quotient.now induced.now }
+    requires length { length w.now ≡ (dimension_in induced.now.tables) }
+    ensures some { IfOk result (λ answer. IfSome answer (λ form. FirstOf (IsBasisOf (dimension_in induced.now.tables) (order_of quotient.now) (matrix_in quotient.now induced.now.tables) (exact_rows k24_laws exact24 form.rows)) (FitsNot (dimension_in induced.now.tables) (order_of quotient.now) (matrix_in quotient.now induced.now.tables)) (tried (dimension_in induced.now.tables) (Some w.now)))) }
+    ensures shape { IfOk result (λ answer. IfSome answer (λ form. HaveWidth ((dimension_in induced.now.tables) + (dimension_in induced.now.tables)) form.rows)) }
+    ensures none { IfOk result (λ answer. IfNone answer (NoneOf (FitsNot (dimension_in induced.now.tables) (order_of quotient.now) (matrix_in quotient.now induced.now.tables)) (tried (dimension_in induced.now.tables) (Some w.now)))) }
+    ensures wide { (result ≡ Err lin_error.Wide) → IsWideSpans (dimension_in induced.now.tables) (order_of quotient.now) (matrix_in quotient.now induced.now.tables) (tried (dimension_in induced.now.tables) (Some w.now)) }
+{
+    span_of(alloc, quotient, induced, w)
+}
+
+// The same for the candidates.
+fn candidate_form(
+    alloc: Global,
+    quotient: &Quotient,
+    induced: &Induced,
+) -> Result<Option<Echelon<K24>>, LinError>
+    requires of { IsInducedOf quotient.now induced.now }
+    ensures some { IfOk result (λ answer. IfSome answer (λ form. FirstOf (IsBasisOf (dimension_in induced.now.tables) (order_of quotient.now) (matrix_in quotient.now induced.now.tables) (exact_rows k24_laws exact24 form.rows)) (FitsNot (dimension_in induced.now.tables) (order_of quotient.now) (matrix_in quotient.now induced.now.tables)) (map (candidate_vector (dimension_in induced.now.tables)) (candidates_of (dimension_in induced.now.tables))))) }
+    ensures shape { IfOk result (λ answer. IfSome answer (λ form. HaveWidth ((dimension_in induced.now.tables) + (dimension_in induced.now.tables)) form.rows)) }
+    ensures none { IfOk result (λ answer. IfNone answer (NoneOf (FitsNot (dimension_in induced.now.tables) (order_of quotient.now) (matrix_in quotient.now induced.now.tables)) (map (candidate_vector (dimension_in induced.now.tables)) (candidates_of (dimension_in induced.now.tables))))) }
+    ensures wide { (result ≡ Err lin_error.Wide) → IsWideSpans (dimension_in induced.now.tables) (order_of quotient.now) (matrix_in quotient.now induced.now.tables) (map (candidate_vector (dimension_in induced.now.tables)) (candidates_of (dimension_in induced.now.tables))) }
+{
+    let all = candidates(alloc, induced.dim())?;
+    first_form(alloc, quotient, induced, &all)
+}
+
+// The form of the span of the orbit of the first candidate that fits.
+fn first_form(
+    alloc: Global,
+    quotient: &Quotient,
+    induced: &Induced,
+    candidates: &[Candidate],
+) -> Result<Option<Echelon<K24>>, LinError>
+    requires of { IsInducedOf quotient.now induced.now }
+    requires powers { ArePowers candidates.now }
+    ensures some { IfOk result (λ answer. IfSome answer (λ form. FirstOf (IsBasisOf (dimension_in induced.now.tables) (order_of quotient.now) (matrix_in quotient.now induced.now.tables) (exact_rows k24_laws exact24 form.rows)) (FitsNot (dimension_in induced.now.tables) (order_of quotient.now) (matrix_in quotient.now induced.now.tables)) (map (candidate_vector (dimension_in induced.now.tables)) candidates.now))) }
+    ensures shape { IfOk result (λ answer. IfSome answer (λ form. HaveWidth ((dimension_in induced.now.tables) + (dimension_in induced.now.tables)) form.rows)) }
+    ensures none { IfOk result (λ answer. IfNone answer (NoneOf (FitsNot (dimension_in induced.now.tables) (order_of quotient.now) (matrix_in quotient.now induced.now.tables)) (map (candidate_vector (dimension_in induced.now.tables)) candidates.now))) }
+    ensures wide { (result ≡ Err lin_error.Wide) → IsWideSpans (dimension_in induced.now.tables) (order_of quotient.now) (matrix_in quotient.now induced.now.tables) (map (candidate_vector (dimension_in induced.now.tables)) candidates.now) }
+{
+    for candidate in candidates {
+        let row = candidate_row(alloc, *candidate, induced.dim())?;
+        match span_of(alloc, quotient, induced, &row) {
+            Ok(Some(form)) => return Ok(Some(form)),
+            Ok(None) => {}
+            Err(error) => return Err(error),
+        }
+    }
+    Ok(None)
+}

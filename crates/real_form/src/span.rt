@@ -1,0 +1,154 @@
+// The span of an orbit.
+ghost use Rattle.std.specs.Prelude.{◌≡◌, ◌<◌, ◌≤◌, ◌+◌, ◌*◌, ℕ, true, false, Ok, Err, IfOk, IfSome, IfNone, OnOk, OnErr, length};
+ghost use Rattle.cyclo24.specs.K24.{exact24};
+ghost use Rattle.cyclo24.specs.Z24.{exact_z24};
+ghost use Rattle.cyclo24.specs.ExactK24.{k24, k24_laws};
+ghost use Rattle.cyclo24.specs.ExactZ24.{z24, z24_laws};
+ghost use Rattle.lin_alg.specs.Spans.{IsInSpan};
+ghost use Rattle.lin_alg.specs.Rows.{vector, exact_rows, HaveWidth};
+ghost use Rattle.lin_alg.specs.Solving.{plain_rows};
+ghost use Rattle.lin_alg.specs.declared.errors.LinError.TheVariants as lin_error;
+ghost use Rattle.lin_alg.specs.declared.echelon.Grew.TheVariants as grew;
+ghost use Rattle.super_group.specs.Quotient.{order_of};
+ghost use Rattle.induce.specs.Tables.{dimension_in, matrix_in};
+ghost use Rattle.induce.specs.InducedView.{IsInducedOf};
+ghost use Rattle.real_form.specs.Parts.{orbit};
+ghost use Rattle.real_form.specs.Complexes.{z24_parts};
+ghost use Rattle.real_form.specs.Orbits.{Fits};
+ghost use Rattle.real_form.specs.RealBasis.{IsBasisOf};
+ghost use Rattle.real_form.specs.Wide.{IsWideOrbit};
+ghost use Rattle.real_form.specs.Spanned.{HoldsSpan};
+
+use crate::image::fill_image;
+use crate::insertion::insert;
+use cyclo24::{K24, Z24};
+use induce::Induced;
+use lin_alg::{Echelon, Grew, LinError, zeros};
+use std::alloc::Global;
+use super_group::Quotient;
+
+// Inserts the image of w under element q into the form of the images before it.
+fn insert_image(
+    form: &mut Echelon<K24>,
+    row: &mut [K24],
+    quotient: &Quotient,
+    induced: &Induced,
+    w: &[Z24],
+    q: usize,
+) -> Result<Grew, LinError>
+    requires of { IsInducedOf quotient.now induced.now }
+    requires element { q < order_of quotient.now }
+    requires length { length w.now ≡ (dimension_in induced.now.tables) }
+    requires room { length row.old ≡ (dimension_in induced.now.tables) + (dimension_in induced.now.tables) }
+    requires held { HoldsSpan k24_laws exact24 ((dimension_in induced.now.tables) + (dimension_in induced.now.tables)) (orbit z24_parts (dimension_in induced.now.tables) (matrix_in quotient.now induced.now.tables) (vector z24_laws exact_z24 w.now)) q form.old }
+    ensures held { OnOk result (HoldsSpan k24_laws exact24 ((dimension_in induced.now.tables) + (dimension_in induced.now.tables)) (orbit z24_parts (dimension_in induced.now.tables) (matrix_in quotient.now induced.now.tables) (vector z24_laws exact_z24 w.now)) (q + 1) form.new) }
+    ensures member { IfOk result (λ answer. (answer ≡ grew.No) → IsInSpan k24_laws (plain_rows (orbit z24_parts (dimension_in induced.now.tables) (matrix_in quotient.now induced.now.tables) (vector z24_laws exact_z24 w.now)) q) (orbit z24_parts (dimension_in induced.now.tables) (matrix_in quotient.now induced.now.tables) (vector z24_laws exact_z24 w.now) q)) }
+    ensures wide { (result ≡ Err lin_error.Wide) → IsWideOrbit (dimension_in induced.now.tables) (order_of quotient.now) (matrix_in quotient.now induced.now.tables) (vector z24_laws exact_z24 w.now) }
+{
+    match fill_image(row, quotient, induced, w, q) {
+        Ok(()) => {}
+        Err(_) => return Err(LinError::Wide),
+    }
+    match insert(form, row) {
+        Ok(answer) => Ok(answer),
+        Err(error) => Err(error),
+    }
+}
+
+// Inserts the images under the elements behind the first of a block, up to its end, and answers no as
+// soon as the form has more than n rows.
+fn insert_rest(
+    form: &mut Echelon<K24>,
+    row: &mut [K24],
+    quotient: &Quotient,
+    induced: &Induced,
+    w: &[Z24],
+    first: usize,
+    end: usize,
+) -> Result<bool, LinError>
+    requires of { IsInducedOf quotient.now induced.now }
+    requires length { length w.now ≡ (dimension_in induced.now.tables) }
+    requires room { length row.old ≡ (dimension_in induced.now.tables) + (dimension_in induced.now.tables) }
+    requires some { first < end }
+    requires inside { end ≤ order_of quotient.now }
+    requires held { HoldsSpan k24_laws exact24 ((dimension_in induced.now.tables) + (dimension_in induced.now.tables)) (orbit z24_parts (dimension_in induced.now.tables) (matrix_in quotient.now induced.now.tables) (vector z24_laws exact_z24 w.now)) (first + 1) form.old }
+    ensures held { IfOk result (λ few. (few ≡ true) → HoldsSpan k24_laws exact24 ((dimension_in induced.now.tables) + (dimension_in induced.now.tables)) (orbit z24_parts (dimension_in induced.now.tables) (matrix_in quotient.now induced.now.tables) (vector z24_laws exact_z24 w.now)) end form.new) }
+    ensures passed { IfOk result (λ few. (few ≡ false) → Fits z24_parts (dimension_in induced.now.tables) (order_of quotient.now) (matrix_in quotient.now induced.now.tables) (vector z24_laws exact_z24 w.now) → ⊥) }
+    ensures wide { (result ≡ Err lin_error.Wide) → IsWideOrbit (dimension_in induced.now.tables) (order_of quotient.now) (matrix_in quotient.now induced.now.tables) (vector z24_laws exact_z24 w.now) }
+{
+    let n = induced.dim();
+    for q in first + 1..end {
+        if form.len() > n {
+            return Ok(false);
+        }
+        match insert_image(form, row, quotient, induced, w, q) {
+            Ok(_) => {}
+            Err(error) => return Err(error),
+        }
+    }
+    Ok(true)
+}
+
+// Inserts the images under all elements of rotation r, and answers no where the form has more than n
+// rows. Where the first is in the span of those before, which the translations keep, so are the others.
+fn insert_block(
+    form: &mut Echelon<K24>,
+    row: &mut [K24],
+    quotient: &Quotient,
+    induced: &Induced,
+    w: &[Z24],
+    r: usize,
+) -> Result<bool, LinError>
+    requires of { IsInducedOf quotient.now induced.now }
+    requires length { length w.now ≡ (dimension_in induced.now.tables) }
+    requires room { length row.old ≡ (dimension_in induced.now.tables) + (dimension_in induced.now.tables) }
+    requires rotation { r < length quotient.now.parent.ops }
+    requires held { HoldsSpan k24_laws exact24 ((dimension_in induced.now.tables) + (dimension_in induced.now.tables)) (orbit z24_parts (dimension_in induced.now.tables) (matrix_in quotient.now induced.now.tables) (vector z24_laws exact_z24 w.now)) (r * length quotient.now.translations) form.old }
+    ensures held { IfOk result (λ few. (few ≡ true) → HoldsSpan k24_laws exact24 ((dimension_in induced.now.tables) + (dimension_in induced.now.tables)) (orbit z24_parts (dimension_in induced.now.tables) (matrix_in quotient.now induced.now.tables) (vector z24_laws exact_z24 w.now)) ((r + 1) * length quotient.now.translations) form.new) }
+    ensures passed { IfOk result (λ few. (few ≡ false) → Fits z24_parts (dimension_in induced.now.tables) (order_of quotient.now) (matrix_in quotient.now induced.now.tables) (vector z24_laws exact_z24 w.now) → ⊥) }
+    ensures wide { (result ≡ Err lin_error.Wide) → IsWideOrbit (dimension_in induced.now.tables) (order_of quotient.now) (matrix_in quotient.now induced.now.tables) (vector z24_laws exact_z24 w.now) }
+{
+    let _order = quotient.order();
+    if form.len() > induced.dim() {
+        return Ok(false);
+    }
+    let count = quotient.translations().len();
+    let first = r * count;
+    match insert_image(form, row, quotient, induced, w, first) {
+        Ok(Grew::No) => Ok(true),
+        Ok(Grew::Yes) => insert_rest(form, row, quotient, induced, w, first, first + count),
+        Err(error) => Err(error),
+    }
+}
+
+// The reduced form of the span of the orbit of w, where it has n rows.
+pub(crate) fn span_of(
+    alloc: Global,
+    quotient: &Quotient,
+    induced: &Induced,
+    w: &[Z24],
+) -> Result<Option<Echelon<K24>>, LinError>
+    requires of { IsInducedOf quotient.now induced.now }
+    requires length { length w.now ≡ (dimension_in induced.now.tables) }
+    ensures some { IfOk result (λ answer. IfSome answer (λ form. IsBasisOf (dimension_in induced.now.tables) (order_of quotient.now) (matrix_in quotient.now induced.now.tables) (exact_rows k24_laws exact24 form.rows) (vector z24_laws exact_z24 w.now))) }
+    ensures shape { IfOk result (λ answer. IfSome answer (λ form. HaveWidth ((dimension_in induced.now.tables) + (dimension_in induced.now.tables)) form.rows)) }
+    ensures none { IfOk result (λ answer. IfNone answer (Fits z24_parts (dimension_in induced.now.tables) (order_of quotient.now) (matrix_in quotient.now induced.now.tables) (vector z24_laws exact_z24 w.now) → ⊥)) }
+    ensures wide { (result ≡ Err lin_error.Wide) → IsWideOrbit (dimension_in induced.now.tables) (order_of quotient.now) (matrix_in quotient.now induced.now.tables) (vector z24_laws exact_z24 w.now) }
+{
+    let n = induced.dim();
+    let mut form = Echelon::new(alloc, n + n);
+    form.reserve(n + 1)?;
+    let mut row = zeros(alloc, n + n)?;
+    for r in 0..quotient.group().len() {
+        match insert_block(&mut form, &mut row, quotient, induced, w, r) {
+            Ok(true) => {}
+            Ok(false) => return Ok(None),
+            Err(error) => return Err(error),
+        }
+    }
+    if form.len() == n {
+        Ok(Some(form))
+    } else {
+        Ok(None)
+    }
+}
