@@ -148,6 +148,18 @@ fn a_given_vector(rt: HostRuntime) {
     assert!(rt; form.dim() == 2);
     assert!(rt; has_basis(&form, 0, &[half, K24::one(), zero, zero]));
     assert!(rt; has_basis(&form, 1, &[zero, zero, cosine(&rt, 8), K24::one()]));
+    let three = element_of(&rt, &case.quotient, THREE);
+    let less = cosine(&rt, 8);
+    assert!(rt;
+        is_matrix(
+            &form,
+            three,
+            [less, cosine(&rt, 2)],
+            [cosine(&rt, 10), less]
+        )
+    );
+    let two = element_of(&rt, &case.quotient, TWO);
+    assert!(rt; is_matrix(&form, two, [K24::one(), zero], [zero, K24::small(-1)]));
 }
 
 #[test]
