@@ -4,5 +4,6 @@ pub mod MotionLemmas
 pub mod MultiplierLemmas
 pub mod Passed
 pub mod PlaceLemmas
+pub mod SquareLemmas
 pub mod TableLemmas
 pub mod TranslationLemmas

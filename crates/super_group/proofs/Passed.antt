@@ -1,5 +1,5 @@
 -- Signed numbers that were passed by value, read back.
-use Rattle.std.proofs.Common.{zero, suc, ◌<◌, length, get_or, arith, refl, ◌≡◌, ◌∙◌, ℕ, ◌*◌, ℤ, pos, ◌+ℤ◌, neg_ℤ, List, [], ◌∷◌, FitsSigned, w32, to_z, of_z}
+use Rattle.std.proofs.Common.{◌≡◌, ◌∙◌, ℕ, ◌*◌, ℤ, pos, ◌+ℤ◌, neg_ℤ, FitsSigned, w32, to_z, of_z}
 use Rattle.std.proofs.lemmas.Int.{to_z-of_z}
 use Rattle.std.specs.Int.{int_rem_euclid}
 

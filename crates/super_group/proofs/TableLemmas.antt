@@ -4,7 +4,7 @@ use Rattle.std.proofs.lemmas.List.{get_or-set_same, get_or-set_other}
 use Rattle.space_ops.specs.declared.op.Op.{Op}
 use Rattle.algebra.specs.Whole.{whole}
 use Rattle.space_ops.specs.Matrix.{matrix_times}
-use Rattle.space_ops.specs.Op.{matrix_of, seitz_of, identity_op, product_of}
+use Rattle.space_ops.specs.Op.{matrix_of, identity_op, product_of}
 use Rattle.space_ops.specs.OpLaws.{seitz_of-product_of}
 use Rattle.space_ops.specs.Seitz.{Seitz}
 use Rattle.space_ops.specs.Words.{op_at}

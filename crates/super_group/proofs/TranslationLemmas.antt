@@ -1,18 +1,17 @@
 -- Points that are lattice translations, and the order of points.
-use Rattle.std.proofs.Common.{◌≡◌, refl, sym, ap, ◌∙◌, ℕ, zero, suc, ◌<◌, ◌/◌, inl, inr, ℤ, pos, ◌+ℤ◌, ◌*ℤ◌, ◌<ℤ◌, length, arith}
+use Rattle.std.proofs.Common.{◌≡◌, refl, sym, ap, ◌∙◌, ℕ, ◌/◌, inl, inr, ℤ, pos, ◌+ℤ◌, ◌*ℤ◌, ◌<ℤ◌, arith}
 use Rattle.std.proofs.lemmas.Int.{ints}
 use Rattle.std.proofs.lemmas.Cmp.{int_ranked, by_ranked, int_cmp_total, tied_itself}
 use Rattle.std.specs.Ordering.{int_cmp, ordering_then}
 use Rattle.std.specs.declared.cmp.Ordering.{Ordering}
 use Rattle.std.specs.declared.cmp.Ordering.TheVariants.{Less, Equal}
 use Rattle.space_ops.specs.declared.lattice.Lattice.{Lattice}
-use Rattle.space_ops.specs.declared.lattice.Lattice.TheVariants.{P, A, B, C, I, R, F}
 use Rattle.space_ops.specs.Matrix.{Vector}
 use Rattle.space_ops.specs.MatrixLaws.{same_vector}
 use Rattle.space_ops.specs.Op.{vector_of}
 use Rattle.space_ops.specs.Lattice.{centrings_of, twelfths}
 use Rattle.space_ops.specs.Words.{centring_at, IsLatticeVector}
-use Rattle.space_ops.specs.LeastShift.{vector_cmp, IsTwelfth, IsInCell}
+use Rattle.space_ops.specs.LeastShift.{vector_cmp, IsTwelfth}
 use Rattle.super_group.specs.TranslationLaws.{centrings-in_cell}
 use Rattle.super_group.specs.TranslationsBefore.{IsBefore, IsAt, HasLayer, HasColumn, HasPoint}
 

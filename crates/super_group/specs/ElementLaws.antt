@@ -6,14 +6,14 @@
 -- element-factors: q is the number of {E|t} times that of operation r
 -- number-translation, number-operation: the numbers of {E|t} and of operation r
 -- elements-factored, numbers-multiplied: these in one
-use Rattle.std.proofs.Common.{◌≡◌, sym, ap, ◌∙◌, subst, ℕ, zero, suc, ◌<◌, ◌+◌, ◌*◌, ◌/◌, ◌%◌, ℤ, length, arith}
+use Rattle.std.proofs.Common.{◌≡◌, sym, ap, ◌∙◌, subst, ℕ, ◌<◌, ◌+◌, ◌*◌, ◌/◌, ◌%◌, ℤ, length, arith}
 use Rattle.std.proofs.lemmas.Int.{ints}
 use Rattle.std.proofs.lemmas.Nat.{div-mul-add, mod-mul-add}
 use Rattle.algebra.specs.Whole.{whole}
 use Rattle.algebra.specs.WholeLaws.{whole_ring}
 use Rattle.space_ops.specs.Matrix.{Vector, image_under, vector_sum, zero_vector, unit_matrix}
 use Rattle.space_ops.specs.MatrixLaws.{same_vector, unit-matrix_times}
-use Rattle.space_ops.specs.Seitz.{Seitz, seitz_product, seitz_inverse, seitz_identity}
+use Rattle.space_ops.specs.Seitz.{Seitz, seitz_product, seitz_identity}
 use Rattle.space_ops.specs.OpLaws.{same_seitz, seitz_product-identity, identity-seitz_product}
 use Rattle.space_ops.specs.Words.{op_at, vector_difference}
 use Rattle.space_ops.specs.WordLaws.{translation, word-lattice, word-identity}
@@ -23,7 +23,7 @@ use Rattle.super_group.specs.SupercellLaws.{reduced-cell, inside-unique}
 use Rattle.super_group.specs.Quotient.{SupercellGroup, IsQuotient, IsMember, translation_at, order_of, element_of, number_of, quotient_group}
 use Rattle.super_group.specs.PlaceLaws.{zero-first}
 use Rattle.super_group.specs.QuotientLaws.{row_below, rotation-at, element-parts, element-inside, places-below, number-element, number-same, number-product, number-inverse, number-identity, element-number}
-use Rattle.super_group.specs.Elements.{translation_element, IsFactored, AreFactored, AreNumbersMultiplied}
+use Rattle.super_group.specs.Elements.{translation_element, AreFactored, AreNumbersMultiplied}
 
 -- v + t, as t after {E|v} adds them
 turned : (v t : Vector ℤ) → vector_sum whole t v ≡ vector_sum whole v (image_under whole (unit_matrix whole) t)

@@ -36,6 +36,10 @@ pub mod GeneratorLaws
 pub mod MultiplierLaws
 -- the table of the products of rotations
 pub mod RotationTable
+-- what contracts see of a numbering's fields
+pub mod NumberingView
+-- the squares of the elements of a quotient
+pub mod Squares
 -- what contracts see of a quotient's fields
 pub mod QuotientView
 -- the lattice translations inside a supercell that come before a point, in order of coordinates

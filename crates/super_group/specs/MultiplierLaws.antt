@@ -2,7 +2,7 @@
 --
 -- multipliers-unique: a group and denominators have one list of multipliers
 -- multiplier-divides: each multiplier divides every common multiple
-use Rattle.std.proofs.Common.{◌≡◌, refl, sym, ap, ◌∙◌, ℕ, zero, suc, ◌<◌, ◌≤◌, ◌+◌, ◌*◌, ◌/◌, ◌%◌, List, arith}
+use Rattle.std.proofs.Common.{◌≡◌, refl, ℕ, zero, suc, ◌<◌, ◌≤◌, ◌%◌, List, arith}
 use Rattle.std.proofs.Math.Nat.{mod-lt}
 use Rattle.algebra.specs.MultipleLaws.{rem-common}
 use Rattle.space_ops.specs.declared.op.Op.{Op}

@@ -1,13 +1,11 @@
 -- What contracts see of a quotient's fields.
-use Rattle.std.specs.Prelude.{◌≤◌, length}
 use Rattle.super_group.specs.declared.quotient.Quotient.TheInside.{Inside}
-use Rattle.super_group.specs.Quotient.{SupercellGroup, IsQuotient, order_of}
-use Rattle.super_group.specs.RotationTable.{IsProductTable}
+use Rattle.super_group.specs.Quotient.{SupercellGroup, order_of}
+use Rattle.super_group.specs.Squares.{AreSquares}
 
 abbrev pub view_of : Inside → SupercellGroup
-view_of s = record { parent = s.group; d = s.d; translations = s.translations.items }
+view_of s = s.numbering
 
-pub record IsHeld (s : Inside) : Type 0 where
-  pub quotient : IsQuotient (view_of s)
-  pub few : order_of (view_of s) ≤ 6144
-  pub products : IsProductTable s.group.ops (length s.group.ops) s.products
+-- the squares of all elements
+abbrev pub IsHeld : Inside → Type 0
+IsHeld s = AreSquares s.numbering s.squares.items (order_of s.numbering)

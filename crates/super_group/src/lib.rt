@@ -8,13 +8,18 @@
 #![tactic(auto)]
 
 mod denominators;
+mod errors;
 mod inside;
 mod joined;
 mod laws;
+mod motions;
+mod numbering;
 mod products;
 mod quotient;
+mod squares;
 mod translations;
 
 pub use denominators::{are_denominators, multipliers};
+pub use errors::{MAX_ORDER, QuotientError};
 pub use laws::{law_of_elements, law_of_multipliers};
-pub use quotient::{MAX_ORDER, Quotient, QuotientError};
+pub use quotient::Quotient;

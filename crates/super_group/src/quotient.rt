@@ -1,43 +1,20 @@
 // The group modulo a supercell.
-ghost use Rattle.std.specs.Prelude.{◌≡◌, ℕ, ◌<◌, ◌≤◌, ◌+◌, ◌*◌, ◌++◌, map, length};
-ghost use Rattle.space_ops.specs.Op.{vector_of, shift_of};
-ghost use Rattle.super_group.specs.Supercell.{multiplier};
-ghost use Rattle.super_group.specs.Quotient.{place_among, order_in as order_of_parent};
-ghost use Rattle.super_group.specs.QuotientParts.{IsRisingList, IsAmong, translation_op, motion_ops};
-
-use crate::inside::{rest_inside, sum_inside};
-use crate::products::product_table;
-use crate::translations::translations;
+use crate::errors::QuotientError;
+use crate::numbering::Numbering;
+use crate::squares::squares;
 use arrayvec::ArrayVec;
 use iso_text::NoMemory;
 use space_ops::{Group, Op};
 use std::alloc::Global;
 use std::marker::Model;
-use thiserror::Error;
-
-/// The greatest order of a quotient.
-pub const MAX_ORDER: u64 = 6144;
-
-/// Why a supercell has no quotient.
-#[derive(Clone, Copy, Debug, PartialEq, Eq, Error)]
-pub enum QuotientError {
-    /// The order, which passes 6,144.
-    #[error("the order passes 6144")]
-    TooLargeGroup(u64),
-    /// Want of memory.
-    #[error("out of memory")]
-    NoMemory,
-}
 
 /// The parent group modulo the translations of a supercell of d1, d2 and d3 cell edges. Element
 /// q = r T + t, from 0, is rotation r of the group's list with its translation and translation t of
 /// the T lattice translations inside the supercell; 0 is the identity.
 #[derive(Drop)]
 pub struct Quotient {
-    group: Group,
-    d: [u32; 3],
-    translations: Vec<[i32; 3]>,
-    products: [[u8; 48]; 48],
+    numbering: Numbering,
+    squares: Vec<u16>,
 }
 
 impl Model for Quotient {
@@ -53,12 +30,11 @@ impl Model for Quotient {
 }
 
 impl Quotient {
-    ghost use Rattle.std.specs.Prelude.{◌≡◌, ℕ, ◌<◌, ◌≤◌, ◌/◌, IfOk, Err, length, slice_index_or};
+    ghost use Rattle.std.specs.Prelude.{◌≡◌, ℕ, ◌<◌, ◌≤◌, IfOk, Err, length, slice_index_or};
     ghost use Rattle.algebra.specs.NumberedGroup.{IsGroup, IsGenerated};
     ghost use Rattle.space_ops.specs.Seitz.{seitz_product, seitz_inverse};
     ghost use Rattle.algebra.specs.Whole.{whole};
     ghost use Rattle.space_ops.specs.Op.{seitz_of, op_of, matrix_of, IsSmallRotation, IsShiftWithin, IsUnimodular};
-    ghost use Rattle.space_ops.specs.GroupLaws.{place_of, rotation_group};
     ghost use Rattle.super_group.specs.Supercell.{IsSupercell, IsSameElement};
     ghost use Rattle.super_group.specs.Quotient.{IsQuotient, IsNumbered, IsMember, order_in, order_of, element_of, number_of, quotient_group, generators_of};
 
@@ -73,48 +49,37 @@ impl Quotient {
         ensures large { (order : ℕ) → result ≡ Err (QuotientError.TooLargeGroup order) → (order ≡ order_in group d) × (6144 < order) }
         ensures memory { result ≡ Err QuotientError.NoMemory → order_in group d ≤ 6144 }
     {
-        let order = order_in(&group, d);
-        if order > MAX_ORDER {
-            return Err(QuotientError::TooLargeGroup(order));
-        }
-        let translations = match translations(alloc, group.lattice(), d) {
-            Ok(translations) => translations,
+        let numbering = match Numbering::new(alloc, group, d) {
+            Ok(numbering) => numbering,
+            Err(error) => return Err(error),
+        };
+        let squares = match squares(alloc, &numbering) {
+            Ok(squares) => squares,
             Err(_) => return Err(QuotientError::NoMemory),
         };
-        let products = product_table(&group);
-        Ok(Quotient {
-            group,
-            d,
-            translations,
-            products,
-        })
+        Ok(Quotient { numbering, squares })
     }
 
     /// The same quotient again.
     pub fn copy(&self, alloc: Global) -> Result<Quotient, NoMemory>
         ensures { IfOk result (λ copy. copy ≡ self.now) }
     {
-        let group = match self.group.copy(alloc) {
-            Ok(group) => group,
+        let numbering = match self.numbering.copy(alloc) {
+            Ok(numbering) => numbering,
             Err(_) => return Err(NoMemory),
         };
-        let translations = match Vec::from_slice(alloc, &self.translations) {
-            Ok(translations) => translations,
+        let squares = match Vec::from_slice(alloc, &self.squares) {
+            Ok(squares) => squares,
             Err(_) => return Err(NoMemory),
         };
-        Ok(Quotient {
-            group,
-            d: self.d,
-            translations,
-            products: self.products,
-        })
+        Ok(Quotient { numbering, squares })
     }
 
     /// The parent group.
     pub fn group(&self) -> &Group
         ensures { result.now ≡ self.now.parent }
     {
-        &self.group
+        self.numbering.group()
     }
 
     /// The number of elements: rotations times centrings times cells, at most 6,144.
@@ -126,21 +91,21 @@ impl Quotient {
         ensures numbered { IsNumbered self.now }
         ensures group { IsGroup (quotient_group self.now) }
     {
-        self.group.len() * self.translations.len()
+        self.numbering.order()
     }
 
     /// The multipliers.
     pub fn d(&self) -> [u32; 3]
         ensures { result ≡ self.now.d }
     {
-        self.d
+        self.numbering.d()
     }
 
     /// The lattice translations inside the supercell in twelfths of a cell edge, rising.
     pub fn translations(&self) -> &[[i32; 3]]
         ensures { result.now ≡ self.now.translations }
     {
-        &self.translations
+        self.numbering.translations()
     }
 
     /// The operation of element q, its translation reduced into the supercell. It may be composed and
@@ -154,11 +119,7 @@ impl Quotient {
         ensures near { IsShiftWithin 1000000 result.shift }
         ensures unimodular { IsUnimodular (matrix_of result.rot) }
     {
-        let count = self.translations.len();
-        let listed = self.group.op(q / count);
-        let shift = sum_inside(listed.shift, self.translations[q % count], self.d);
-        let rot = listed.rot;
-        Op { rot, shift }
+        self.numbering.element(q)
     }
 
     /// The number of the element that a member of the parent group is. Condition: it is a member, as
@@ -169,7 +130,7 @@ impl Quotient {
         ensures below { result < order_of self.now }
         ensures same { IsSameElement self.now.d (element_of self.now result) (seitz_of op) }
     {
-        self.number_under(self.rotation_number(op), op)
+        self.numbering.number(op)
     }
 
     /// The number of the product of two elements.
@@ -180,9 +141,17 @@ impl Quotient {
         ensures below { result < order_of self.now }
         ensures same { IsSameElement self.now.d (element_of self.now result) (seitz_product whole (element_of self.now a) (element_of self.now b)) }
     {
-        let left = self.element(a);
-        let right = self.element(b);
-        self.number_under(self.rotation_product(a, b), left.compose(right))
+        self.numbering.product(a, b)
+    }
+
+    /// The number of the product of an element with itself.
+    pub fn square(&self, q: usize) -> usize
+        requires { q < order_of self.now }
+        ensures value { result ≡ (quotient_group self.now).product q q }
+        ensures below { result < order_of self.now }
+    {
+        let _order = self.order();
+        usize::from(self.squares[q])
     }
 
     /// The number of the inverse of an element.
@@ -192,8 +161,7 @@ impl Quotient {
         ensures below { result < order_of self.now }
         ensures same { IsSameElement self.now.d (element_of self.now result) (seitz_inverse whole (element_of self.now a)) }
     {
-        let element = self.element(a);
-        self.number(element.inverse())
+        self.numbering.inverse(a)
     }
 
     /// The numbers of the generators: those of the symbol, then the centrings other than zero, then
@@ -203,102 +171,6 @@ impl Quotient {
         ensures below { (i : ℕ) → i < length result.items → slice_index_or result.items i 0 < order_of self.now }
         ensures generate { IsGenerated (quotient_group self.now) (length result.items) (λ i. slice_index_or result.items i 0) }
     {
-        let motions = motions_in(&self.group);
-        let mut numbers: ArrayVec<usize, 11> = ArrayVec::new();
-        for motion in motions.as_slice() {
-            numbers.push(self.number(*motion));
-        }
-        numbers
+        self.numbering.generators()
     }
-
-    /// The number of a member whose rotation has this number.
-    fn number_under(&self, rotation: usize, op: Op) -> usize
-        requires member { IsMember self.now (seitz_of op) }
-        requires place { rotation ≡ place_of self.now.parent.ops (matrix_of op.rot) }
-        requires below { rotation < length self.now.parent.ops }
-        ensures number { result ≡ number_of self.now (seitz_of op) }
-        ensures below { result < order_of self.now }
-        ensures same { IsSameElement self.now.d (element_of self.now result) (seitz_of op) }
-    {
-        let listed = self.group.op(rotation);
-        let rest = rest_inside(op.shift, listed.shift, self.d);
-        rotation * self.translations.len() + place_in(&self.translations, rest)
-    }
-
-    /// The number of the product of the rotations of two elements.
-    fn rotation_product(&self, a: usize, b: usize) -> usize
-        requires left { a < order_of self.now }
-        requires right { b < order_of self.now }
-        ensures place { result ≡ (rotation_group self.now.parent.ops).product (a / length self.now.translations) (b / length self.now.translations) }
-        ensures below { result < length self.now.parent.ops }
-    {
-        let count = self.translations.len();
-        usize::from(self.products[a / count][b / count])
-    }
-
-    fn rotation_number(&self, op: Op) -> usize
-        requires { IsMember self.now (seitz_of op) }
-        ensures place { result ≡ place_of self.now.parent.ops (matrix_of op.rot) }
-        ensures below { result < length self.now.parent.ops }
-    {
-        match self.group.index_of(op.rot) {
-            Some(rotation) => rotation,
-            None => unreachable!(),
-        }
-    }
-}
-
-fn place_in(translations: &[[i32; 3]], v: [i32; 3]) -> usize
-    requires rising { IsRisingList translations.now }
-    requires listed { IsAmong translations.now (vector_of v) }
-    requires triple { v ≡ shift_of (vector_of v) }
-    ensures value { result ≡ place_among translations.now (vector_of v) }
-    ensures below { result < length translations.now }
-{
-    match translations.binary_search(&v) {
-        Ok(place) => place,
-        Err(_) => unreachable!(),
-    }
-}
-
-fn cells_in(d: [u32; 3]) -> u64
-    requires { (i : ℕ) → i < 3 → multiplier d i ≤ 12 }
-    ensures value { result ≡ multiplier d 0 * multiplier d 1 * multiplier d 2 }
-    ensures few { result ≤ 1728 }
-{
-    u64::from(d[0]) * u64::from(d[1]) * u64::from(d[2])
-}
-
-fn order_in(group: &Group, d: [u32; 3]) -> u64
-    requires { (i : ℕ) → i < 3 → multiplier d i ≤ 12 }
-    ensures { result ≡ order_of_parent group.now d }
-{
-    group.len() as u64 * group.lattice().centrings().len() as u64 * cells_in(d)
-}
-
-const UNIT: [[i8; 3]; 3] = [[1, 0, 0], [0, 1, 0], [0, 0, 1]];
-
-fn push_translations(motions: &mut ArrayVec<Op, 11>, vectors: &[[i32; 3]])
-    requires { length motions.old.items + length vectors.now ≤ 11 }
-    ensures { motions.new.items ≡ motions.old.items ++ map translation_op vectors.now }
-{
-    for vector in vectors {
-        motions.push(Op {
-            rot: UNIT,
-            shift: *vector,
-        });
-    }
-}
-
-fn motions_in(group: &Group) -> ArrayVec<Op, 11>
-    requires { length group.now.generators ≤ 5 }
-    ensures { result.items ≡ motion_ops group.now }
-{
-    let mut motions: ArrayVec<Op, 11> = ArrayVec::new();
-    for generator in group.generators() {
-        motions.push(*generator);
-    }
-    push_translations(&mut motions, &group.lattice().centrings().as_slice()[1..]);
-    push_translations(&mut motions, &[[12, 0, 0], [0, 12, 0], [0, 0, 12]]);
-    motions
 }
