@@ -1,9 +1,9 @@
 // The one reduced echelon form of a span.
-ghost use Rattle.std.specs.Prelude.{◌≡◌, ◌↔◌, ◌<◌, ◌≤◌, ◌+◌, ◌∷◌, [], ℕ, true, false, Ok, Err, IfOk, OnOk, OnErr, length, map, slice_index_or};
+ghost use Rattle.std.specs.Prelude.{◌≡◌, ◌↔◌, ◌<◌, ◌≤◌, ◌+◌, ◌∷◌, [], ℕ, List, true, false, Ok, Err, IfOk, OnOk, OnErr, length, map, slice_index_or, vec_len, vec_capacity};
 ghost use Rattle.cyclo24.specs.ExactField.{Value};
 ghost use Rattle.lin_alg.specs.Spans.{row_vectors, less, IsInSpan, AreSame};
 ghost use Rattle.lin_alg.specs.Reduced.{IsClear};
-ghost use Rattle.lin_alg.specs.Rows.{vector, exact_rows};
+ghost use Rattle.lin_alg.specs.Rows.{vector, exact_rows, HaveLength};
 ghost use Rattle.lin_alg.specs.Equations.{dot};
 ghost use Rattle.lin_alg.specs.Insertion.{IsWideReduce, IsWideInsert};
 ghost use Rattle.lin_alg.specs.Echelon.{IsEchelon, IsSpanned, IsSolution};
@@ -13,8 +13,8 @@ ghost use Rattle.lin_alg.specs.declared.echelon.Grew.TheVariants as grew;
 mod compare;
 mod free;
 
-use crate::elimination::{insert_row, last_column, reduce_row};
-use crate::memory::{add_spare, copy_lines};
+use crate::elimination::{insert_row, last_column, put_line, reduce_row};
+use crate::memory::{add_spare, copy_lines, free_lines};
 use crate::{LinError, Steps};
 use cyclo24::{Field, Wide};
 use iso_text::NoMemory;
@@ -153,6 +153,42 @@ impl<F: Field> Echelon<F> {
         })
     }
 
+    /// Makes it the empty form of rows of this width. It takes no memory. What it holds serves for
+    /// further rows, but for rows of another width.
+    pub fn clear(&mut self, width: usize)
+        ensures width { self.new.width ≡ width }
+        ensures whole { self.new.whole ≡ true }
+        ensures rows { self.new.rows ≡ [] }
+        ensures form { IsEchelon F.field.laws F.value self.new }
+        ensures spare { (width ≡ self.old.width) → self.old.spare ≤ self.new.spare }
+    {
+        self.whole = true;
+        if width != self.width {
+            self.width = width;
+            self.lines.clear();
+            self.spare.clear();
+            return;
+        }
+        free_lines(&mut self.lines, &mut self.spare);
+    }
+
+    /// Makes it a form with the same rows, width and `is_whole` as another. It takes memory only where
+    /// its own doesn't suffice. After want of memory it is the empty form of the other's width.
+    pub fn copy_from(&mut self, other: &Echelon<F>) -> Result<(), NoMemory>
+        ensures width { self.new.width ≡ other.now.width }
+        ensures whole { OnOk result (self.new.whole ≡ other.now.whole) }
+        ensures rows { OnOk result (self.new.rows ≡ other.now.rows) }
+        ensures form { IsEchelon F.field.laws F.value self.new }
+        ensures empty { OnErr result ((self.new.whole ≡ true) × (self.new.rows ≡ [])) }
+        ensures spare { OnOk result ((other.now.width ≡ self.old.width) → self.old.spare ≤ self.new.spare + length other.now.rows) }
+    {
+        self.clear(other.width);
+        self.reserve(other.lines.len())?;
+        put_rows(&mut self.lines, &mut self.spare, other);
+        self.whole = other.whole;
+        Ok(())
+    }
+
     /// Takes a member of the span from the row, so that it is 0 in each pivot column. After `Wide` the
     /// row holds any values.
     pub fn reduce(&self, row: &mut [F]) -> Result<(), Wide>
@@ -229,5 +265,22 @@ impl<F: Field> Echelon<F> {
             return self.reserve(1);
         }
         Ok(())
+    }
+}
+
+// Puts copies of the rows of a form into spare rows, so nothing is allocated.
+fn put_rows<F: Field>(lines: &mut Vec<(usize, Vec<F>)>, spare: &mut Vec<Vec<F>>, other: &Echelon<F>)
+    requires empty { lines.old.items ≡ [] }
+    requires room { vec_len spare.old ≤ vec_capacity lines.old }
+    requires enough { length other.now.rows ≤ vec_len spare.old }
+    requires long { HaveLength other.now.width (map (λ r. r.items) spare.old.items) }
+    ensures room { vec_len lines.new + vec_len spare.new ≤ vec_capacity lines.new }
+    ensures less { vec_len spare.new + length other.now.rows ≡ vec_len spare.old }
+    ensures long { HaveLength other.now.width (map (λ r. r.items) spare.new.items) }
+    ensures rows { map {B = ℕ × List F} (λ r. (r.0, r.1.items)) lines.new.items ≡ other.now.rows }
+{
+    for line in &other.lines {
+        let at = lines.len();
+        put_line(lines, spare, at, line.0, &line.1);
     }
 }

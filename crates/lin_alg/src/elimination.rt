@@ -115,7 +115,7 @@ fn clear_lines<F: Field>(lines: &mut [(usize, Vec<F>)], p: usize, row: &[F]) -> 
 }
 
 // Step 5: puts the row at its place. A spare row takes its entries, so nothing is allocated.
-fn put_line<F: Field>(
+pub(crate) fn put_line<F: Field>(
     lines: &mut Vec<(usize, Vec<F>)>,
     spare: &mut Vec<Vec<F>>,
     at: usize,

@@ -152,6 +152,7 @@ fn product_entry<F: Field>(a: &Matrix<F>, b: &Matrix<F>, i: usize, j: usize) -> 
 pub fn add_product<F: Field>(sum: F, x: F, y: F) -> Result<F, Wide>
     ensures exact { IfOk result (λ r. F.value r ≡ F.field.laws.plus (F.value sum) (F.field.laws.times (F.value x) (F.value y))) }
     ensures wide { OnErr result (IsWideTerm F.field (F.value sum) (F.value x) (F.value y)) }
+    ensures narrow { OnOk result (IsWideTerm F.field (F.value sum) (F.value x) (F.value y) → ⊥) }
 {
     if x.is_zero() {
         return Ok(sum);

@@ -1,6 +1,6 @@
 // Rows in memory.
-ghost use Rattle.std.specs.Prelude.{◌≡◌, ◌≤◌, ℕ, List, IfOk, OnOk, length, map, vec_len};
-ghost use Rattle.lin_alg.specs.Rows.{vector, HaveLength};
+ghost use Rattle.std.specs.Prelude.{◌≡◌, ◌≤◌, ◌+◌, ◌++◌, ◌∷◌, ◌⊎◌, [], ℕ, List, IfOk, OnOk, length, map, vec_len, vec_capacity};
+ghost use Rattle.lin_alg.specs.Rows.{vector, HaveLength, HaveWidth};
 
 use cyclo24::Field;
 use iso_text::NoMemory;
@@ -57,4 +57,31 @@ pub(crate) fn copy_lines<F: Field>(
         }
     }
     Ok(copies)
+}
+
+// Takes all rows from the stored ones. Those for which there is room become spare rows.
+pub(crate) fn free_lines<F: Field>(lines: &mut Vec<(usize, Vec<F>)>, spare: &mut Vec<Vec<F>>)
+    requires room { vec_len lines.old + vec_len spare.old ≤ vec_capacity lines.old }
+    ensures empty { lines.new.items ≡ [] }
+    ensures room { vec_len lines.new + vec_len spare.new ≤ vec_capacity lines.new }
+    ensures more { vec_len spare.old ≤ vec_len spare.new }
+    ensures long { (w : ℕ) → HaveWidth w (map (λ r. (r.0, r.1.items)) lines.old.items) → HaveLength w (map (λ r. r.items) spare.old.items) → HaveLength w (map (λ r. r.items) spare.new.items) }
+{
+    for _ in 0..lines.len() {
+        if let Some((_, row)) = lines.pop() {
+            keep_row(spare, row);
+        }
+    }
+    lines.clear();
+}
+
+// Adds a spare row where there is room for one.
+fn keep_row<F: Field>(spare: &mut Vec<Vec<F>>, row: Vec<F>)
+    ensures kept { (spare.new.items ≡ spare.old.items) ⊎ (spare.new.items ≡ spare.old.items ++ row ∷ []) }
+    ensures more { vec_len spare.old ≤ vec_len spare.new }
+    ensures one { vec_len spare.new ≤ vec_len spare.old + 1 }
+{
+    if spare.len() < spare.capacity() {
+        let _ = spare.push(row);
+    }
 }

@@ -65,6 +65,48 @@ fn one_form_of_a_span(rt: HostRuntime) {
     assert!(rt; is_copied(rt.alloc()) == Ok(true));
 }
 
+// The form in the place of a longer one, and of one of another width.
+fn is_copied_over(alloc: Global) -> Result<bool, LinError> {
+    let form = form_of(alloc, &ROWS)?;
+    let mut longer = form_of(alloc, &MORE)?;
+    let mut narrow = Echelon::new(alloc, 2);
+    put(&mut narrow, &mut two([1, 2]))?;
+    longer.copy_from(&form)?;
+    narrow.copy_from(&form)?;
+    let same = are_equal(&longer, &form) && are_equal(&narrow, &form);
+    put(&mut narrow, &mut three([0, 1, 0]))?;
+    let more = form_of(alloc, &MORE)?;
+    Ok(same && narrow.width() == 3 && are_equal(&narrow, &more))
+}
+
+#[test]
+fn one_form_in_the_place_of_another(rt: HostRuntime) {
+    assert!(rt; is_copied_over(rt.alloc()) == Ok(true));
+}
+
+fn is_empty(form: &Echelon<K24>, width: usize) -> bool {
+    form.len() == 0 && form.width() == width && form.is_whole()
+}
+
+// A form that isn't whole, cleared and filled again, and then cleared for rows of another width.
+fn is_cleared(alloc: Global) -> Result<bool, LinError> {
+    let mut form = Echelon::new(alloc, 2);
+    let large = K24::whole((1 << 126) - 1);
+    put(&mut form, &mut [large, K24::one()])?;
+    let wide = put(&mut form, &mut [K24::one(), large]);
+    form.clear(2);
+    let empty = is_empty(&form, 2);
+    put(&mut form, &mut two([3, 0]))?;
+    let filled = form.len() == 1 && has_row(&form, 0, &two([1, 0]), 0);
+    form.clear(3);
+    Ok(wide == Err(LinError::Wide) && empty && filled && is_empty(&form, 3))
+}
+
+#[test]
+fn a_cleared_form(rt: HostRuntime) {
+    assert!(rt; is_cleared(rt.alloc()) == Ok(true));
+}
+
 fn is_larger(alloc: Global) -> Result<bool, LinError> {
     let form = form_of(alloc, &ROWS)?;
     let more = form_of(alloc, &MORE)?;
