@@ -1,5 +1,7 @@
 -- The modules, each behind those that it stands on.
 
+-- the jobs that are built
+pub mod Jobs
 -- what is found for a job and a file's bytes
 pub mod Finding
 -- the steps of the work on a file, one after the other

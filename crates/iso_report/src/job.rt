@@ -1,10 +1,47 @@
 // What the words of the command line ask for.
+ghost use Rattle.std.specs.Prelude.{◌≡◌};
+ghost use Rattle.iso_report.specs.Jobs.{is_built};
 
-/// A command.
+use iso_text::Name;
+
+/// A command with what its options give.
 #[derive(Clone, Copy, Debug, PartialEq, Eq)]
 pub enum Job {
-    /// The operations of the parent group.
+    /// The parent group, its supercell and the irreps.
     Check,
-    /// The isotropy subgroups with their order parameter directions.
-    List,
+    /// The isotropy subgroups of an irrep, the first of the file where none is named, with their
+    /// order parameter directions: those behind the first `after`, at most `count`, and the lines of
+    /// the watchers where a tally is wanted.
+    List {
+        irrep: Option<Name>,
+        after: u64,
+        count: Option<u64>,
+        tally: bool,
+    },
+    /// The modes of all orbits, or those that one direction of an irrep allows, by its number from
+    /// 1; of the first irrep of the file where none is named.
+    Modes {
+        direction: Option<(Option<Name>, u64)>,
+    },
+    /// The amplitudes of the listed atoms.
+    Amps,
+    /// The summary of a generated file, by its number below 64.
+    Demo {
+        number: u8,
+    },
+}
+
+impl Job {
+    /// Whether the job is built so far: `check`, and `list` without a tally.
+    pub fn is_built(&self) -> bool
+        ensures value { result ≡ is_built self.now }
+    {
+        match self {
+            Job::Check => true,
+            Job::List { tally, .. } => !tally,
+            Job::Modes { .. } => false,
+            Job::Amps => false,
+            Job::Demo { .. } => false,
+        }
+    }
 }

@@ -1,0 +1,14 @@
+-- The jobs that are built.
+--
+-- is_built job: the job is built so far
+use Rattle.std.specs.Prelude.{Bool, true, false, not}
+use Rattle.iso_report.specs.declared.job.Job.{Job}
+use Rattle.iso_report.specs.declared.job.Job.TheVariants as job
+
+-- `check`, and `list` without a tally
+abbrev pub is_built : Job → Bool
+is_built job.Check = true
+is_built (job.List irrep after count tally) = not tally
+is_built (job.Modes direction) = false
+is_built job.Amps = false
+is_built (job.Demo number) = false
