@@ -2,7 +2,8 @@
 --
 -- Says line err: err has grown by the line
 -- Answers job bytes status out err: the answer to a job over all the bytes that were left
--- AnswersNoJob status out err: the answer where the words name no job
+-- AnswersUsage status out err: the answer where the words name no job
+-- AnswersNotBuilt status out err: the answer where the words' job isn't built
 -- IsNarrow job bytes: no number of the job passes its bound on these bytes; IsNotWide r: the refusal is no such number
 use Rattle.std.specs.Prelude.{◌≢◌, ◌⊎◌, ℕ, ◌<◌, ◌≤◌, List, [], length, codes}
 use Rattle.iso_report.specs.declared.job.Job.{Job}
@@ -12,6 +13,7 @@ use Rattle.iso_report.specs.Endings.{Change, Grew, GrewByPrefix, HasFailed, RunI
 use Rattle.iso_report.specs.Outcome.{IsOutcome, refused}
 use Rattle.iso_report.specs.Report.{line_of}
 use Rattle.iso_text.specs.Lines.{line}
+use Rattle.iso_cli.specs.UsageLine.{usage_line}
 use Rattle.iso_cli.specs.declared.status.Status.{Status}
 use Rattle.iso_cli.specs.declared.status.Status.TheVariants as status
 
@@ -41,6 +43,12 @@ SaysRefusal r status.Refused err = Says (line_of r) err
 SaysRefusal r status.NoMemory err = Says memory_line err
 SaysRefusal r _ err = ⊥
 
+-- the usage line, or want of memory for reading the words
+abbrev pub SaysUsage : Status → Change → Type 0
+SaysUsage status.Usage err = Says usage_line err
+SaysUsage status.NoMemory err = Says memory_line err
+SaysUsage _ err = ⊥
+
 -- a refusal: too many bytes were left, or the definitions refuse these
 abbrev pub IsRefused : Job → List ℕ → Change → Type 0
 IsRefused job bytes err = ((max_bytes < length bytes) × Says too_long_line err) ⊎ ((r : Refusal) × (length bytes ≤ max_bytes) × IsOutcome job bytes (refused r) × Says (line_of r) err)
@@ -59,9 +67,13 @@ Answers job bytes status.ReadFault out err = Grew [] out × Says read_line err
 Answers job bytes status.WriteFault out err = (length bytes ≤ max_bytes) × IsBrokenOff job bytes out × Says write_line err
 Answers job bytes status.NoMemory out err = IsStopped job bytes out × Says memory_line err
 
--- the answer where the words name no job: not built, and nothing on out
-abbrev pub AnswersNoJob : Status → Change → Change → Type 0
-AnswersNoJob status out err = Grew [] out × SaysRefusal refusal.NotBuilt status err
+-- the answer where the words name no job: the usage line, and nothing on out
+abbrev pub AnswersUsage : Status → Change → Change → Type 0
+AnswersUsage status out err = Grew [] out × SaysUsage status err
+
+-- the answer where the words' job isn't built: the line of that refusal, and nothing on out
+abbrev pub AnswersNotBuilt : Status → Change → Change → Type 0
+AnswersNotBuilt status out err = Grew [] out × SaysRefusal refusal.NotBuilt status err
 
 -- no number of the job passes its bound
 abbrev pub IsNarrow : Job → List ℕ → Type 0

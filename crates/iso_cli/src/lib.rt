@@ -3,10 +3,14 @@
 //! The contract for a caller is `isodist`; `main_status` runs it over the standard streams.
 #![tactic(auto)]
 
+mod command_line;
 mod program;
 mod standard;
 mod status;
 mod top;
+mod usage;
+mod values;
+mod words;
 
 pub use program::main_status;
 pub use standard::{StdErr, StdOut, StdSource};

@@ -1,6 +1,7 @@
 // What the program does with its standard streams.
-ghost use Rattle.std.specs.Prelude.{◌≡◌, ◌≢◌, ◌⊎◌, IfOk, IsNone, map, string_bytes};
-ghost use Rattle.iso_cli.specs.Words.{command_words, job_of, texts_of};
+ghost use Rattle.std.specs.Prelude.{◌≡◌, ◌⊎◌, IfOk, IsNone, map, string_bytes};
+ghost use Rattle.iso_cli.specs.Built.{HasUnbuilt};
+ghost use Rattle.iso_cli.specs.JobOf.{command_words, job_of, texts_of};
 
 use crate::{Status, StdErr, StdOut, StdSource, isodist};
 use std::alloc::{AllocError, Global};
@@ -36,9 +37,11 @@ pub fn main_status<R: Read + Drop, W: Write + Drop, V: Write + Drop>(
     output: W,
     errors: V,
 ) -> Status
-    // Words that name no job are refused, whatever the streams do.
-    ensures no_job { IsNone (job_of (command_words arguments.now)) → (result ≡ Status.Refused) ⊎ (result ≡ Status.NoMemory) }
-    ensures no_usage { result ≢ Status.Usage }
+    // Words that name no job are usage, whatever the streams do, and no other words are.
+    ensures usage { IsNone (job_of (command_words arguments.now)) → (result ≡ Status.Usage) ⊎ (result ≡ Status.NoMemory) }
+    ensures usage_only { result ≡ Status.Usage → IsNone (job_of (command_words arguments.now)) }
+    // A job that isn't built is refused.
+    ensures not_built { HasUnbuilt (command_words arguments.now) → (result ≡ Status.Refused) ⊎ (result ≡ Status.NoMemory) }
 {
     let Ok(words) = words_of(alloc, arguments) else {
         return Status::NoMemory;

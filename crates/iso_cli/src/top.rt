@@ -1,14 +1,18 @@
 // The top call.
-ghost use Rattle.std.specs.Prelude.{◌≡◌, ◌≢◌, ◌+◌, ◌<◌, ◌≤◌, ◌⊎◌, [], Some, IfSome, IsNone, List, ℕ, length};
+ghost use Rattle.std.specs.Prelude.{◌≡◌, ◌≢◌, ◌+◌, ◌<◌, ◌≤◌, ◌⊎◌, [], Some, true, IfSome, IsNone, List, ℕ, length};
 ghost use Rattle.iso_text.specs.Counts.{HasRisen, raised};
 ghost use Rattle.iso_text.specs.Streams.{IsRestOf};
 ghost use Rattle.iso_report.specs.Endings.{change};
 ghost use Rattle.iso_report.specs.Outcome.{IsOutcome, report, refused};
 ghost use Rattle.iso_report.specs.Report.{line_of};
-ghost use Rattle.iso_cli.specs.Answers.{Answers, AnswersNoJob, IsNarrow, IsNotWide, Says, SaysRefusal};
-ghost use Rattle.iso_cli.specs.Words.{job_of, texts_of};
+ghost use Rattle.iso_report.specs.Jobs.{is_built};
+ghost use Rattle.iso_cli.specs.Answers.{Answers, AnswersNotBuilt, AnswersUsage, IsNarrow, IsNotWide, Says, SaysRefusal};
+ghost use Rattle.iso_cli.specs.Built.{HasUnbuilt, built_job_of};
+ghost use Rattle.iso_cli.specs.JobOf.{job_of, texts_of};
 
 use crate::Status;
+use crate::usage::usage_line;
+use crate::words::read_words;
 use iso_report::{Job, Refusal, RunError, law_of_outcomes, refusal_line, run};
 use iso_text::{MAX_BYTES, Sink, Source, TakeError, put_all, take_all};
 use std::alloc::Global;
@@ -20,17 +24,6 @@ const WRITE_FAILED: &str = "isodist: write failed\n";
 const OUT_OF_MEMORY: &str = "isodist: out of memory\n";
 
 const TOO_LONG: &str = "isodist: refused: file is longer than 1048576 bytes\n";
-
-// The job that the words name.
-fn job(words: &[&str]) -> Option<Job>
-    ensures { result ≡ job_of (texts_of words.now) }
-{
-    match words {
-        [word] if *word == "check" => Some(Job::Check),
-        [word] if *word == "list" => Some(Job::List),
-        _ => None,
-    }
-}
 
 // Writes a line on err, and gives the status. A fault there changes no status.
 fn say<E: Sink>(err: &mut E, line: &[u8], status: Status) -> Status
@@ -59,7 +52,8 @@ fn answer<O: Sink, E: Sink>(
     out: &mut O,
     err: &mut E,
 ) -> Status
-    requires { length bytes.now ≤ MAX_BYTES }
+    requires built { is_built job ≡ true }
+    requires few { length bytes.now ≤ MAX_BYTES }
     ensures answers { Answers job bytes.now result
         (change (O.written out.old) (O.written out.new) (O.faults out.old) (O.faults out.new))
         (change (E.written err.old) (E.written err.new) (E.faults err.old) (E.faults err.new)) }
@@ -85,6 +79,7 @@ fn answer_source<S: Source, O: Sink, E: Sink>(
     out: &mut O,
     err: &mut E,
 ) -> Status
+    requires { is_built job ≡ true }
     ensures answers { IfSome (S.left source.old) (λ bytes. Answers job bytes result
         (change (O.written out.old) (O.written out.new) (O.faults out.old) (O.faults out.new))
         (change (E.written err.old) (E.written err.new) (E.faults err.old) (E.faults err.new))) }
@@ -118,24 +113,30 @@ pub fn isodist<'a, S: Source, O: Sink, E: Sink>(
     out: &mut O,
     err: &mut E,
 ) -> Status
-    // Words that name no job are refused, and the source is left unread.
-    ensures no_job { IsNone (job_of (texts_of words.now)) → AnswersNoJob result
+    // Words that name no job are usage.
+    ensures usage { IsNone (job_of (texts_of words.now)) → AnswersUsage result
         (change (O.written out.old) (O.written out.new) (O.faults out.old) (O.faults out.new))
         (change (E.written err.old) (E.written err.new) (E.faults err.old) (E.faults err.new)) }
-    ensures unread { IsNone (job_of (texts_of words.now)) → source.new ≡ source.old }
-    ensures unwritten { IsNone (job_of (texts_of words.now)) → out.new ≡ out.old }
+    ensures usage_only { result ≡ Status.Usage → IsNone (job_of (texts_of words.now)) }
 
-    // A job is answered as the definitions say of all the bytes that were left.
-    ensures job { IfSome (job_of (texts_of words.now)) (λ job. IfSome (S.left source.old) (λ bytes. Answers job bytes result
+    // A job that isn't built is refused. Without a job that is built the source is left unread.
+    ensures not_built { HasUnbuilt (texts_of words.now) → AnswersNotBuilt result
+        (change (O.written out.old) (O.written out.new) (O.faults out.old) (O.faults out.new))
+        (change (E.written err.old) (E.written err.new) (E.faults err.old) (E.faults err.new)) }
+    ensures unread { IsNone (built_job_of (texts_of words.now)) → source.new ≡ source.old }
+    ensures unwritten { IsNone (built_job_of (texts_of words.now)) → out.new ≡ out.old }
+
+    // A job that is built is answered as the definitions say of all the bytes that were left.
+    ensures job { IfSome (built_job_of (texts_of words.now)) (λ job. IfSome (S.left source.old) (λ bytes. Answers job bytes result
         (change (O.written out.old) (O.written out.new) (O.faults out.old) (O.faults out.new))
         (change (E.written err.old) (E.written err.new) (E.faults err.old) (E.faults err.new)))) }
 
     // Where the definitions give a report of few enough bytes, and no number passes its bound, these are
     // not refused; where they refuse the bytes, besides such a number, no report is written, whole or in
     // part.
-    ensures complete { IfSome (job_of (texts_of words.now)) (λ job. IfSome (S.left source.old) (λ bytes.
+    ensures complete { IfSome (built_job_of (texts_of words.now)) (λ job. IfSome (S.left source.old) (λ bytes.
         length bytes ≤ MAX_BYTES → IsNarrow job bytes → (r : List ℕ) → IsOutcome job bytes (report r) → result ≢ Status.Refused)) }
-    ensures sound { IfSome (job_of (texts_of words.now)) (λ job. IfSome (S.left source.old) (λ bytes.
+    ensures sound { IfSome (built_job_of (texts_of words.now)) (λ job. IfSome (S.left source.old) (λ bytes.
         (r : Refusal) → IsNotWide r → IsOutcome job bytes (refused r) → (result ≢ Status.Done) × (result ≢ Status.WriteFault))) }
 
     // Over all streams: out is as it was after a refusal and a read fault, and each fault has its count.
@@ -143,20 +144,21 @@ pub fn isodist<'a, S: Source, O: Sink, E: Sink>(
     ensures read_fault_out { result ≡ Status.ReadFault → out.new ≡ out.old }
     ensures read_fault { result ≡ Status.ReadFault → HasRisen (S.faults source.old) (S.faults source.new) }
     ensures write_fault { result ≡ Status.WriteFault → HasRisen (O.faults out.old) (O.faults out.new) }
-    ensures no_usage { result ≢ Status.Usage }
 
     // What was read: all that was left, but of a file that is too long.
     ensures drained { result ≡ Status.Done → IfSome (S.left source.old) (λ _. S.left source.new ≡ Some []) }
-    ensures refused { result ≡ Status.Refused → IfSome (job_of (texts_of words.now)) (λ _. IfSome (S.left source.old) (λ bytes. (MAX_BYTES < length bytes) ⊎ (S.left source.new ≡ Some []))) }
+    ensures refused { result ≡ Status.Refused → IfSome (built_job_of (texts_of words.now)) (λ _. IfSome (S.left source.old) (λ bytes. (MAX_BYTES < length bytes) ⊎ (S.left source.new ≡ Some []))) }
     ensures too_long { result ≡ Status.Refused → (S.taken source.new ≡ raised (MAX_BYTES + 1) (S.taken source.old)) ⊎ ((r : Refusal) × Says (line_of r) (change (E.written err.old) (E.written err.new) (E.faults err.old) (E.faults err.new))) }
     ensures taken { S.taken source.new ≤ S.taken source.old + (MAX_BYTES + 1) }
     ensures rest { IsRestOf (S.left source.old) (S.left source.new) }
 {
-    match job(words) {
-        Some(job) => {
+    match read_words(alloc, words) {
+        Ok(Some(job)) if job.is_built() => {
             law_of_outcomes();
             answer_source(alloc, job, source, out, err)
         }
-        None => refuse(alloc, &Refusal::NotBuilt, err),
+        Ok(Some(_)) => refuse(alloc, &Refusal::NotBuilt, err),
+        Ok(None) => say(err, usage_line().as_bytes(), Status::Usage),
+        Err(_) => say(err, OUT_OF_MEMORY.as_bytes(), Status::NoMemory),
     }
 }

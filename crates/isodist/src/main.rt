@@ -1,16 +1,14 @@
 //! The program `isodist`: a crystallographer's file on standard input, one report on standard output.
 #![tactic(auto)]
 
-ghost use Rattle.std.specs.Prelude.{◌≡◌, ◌≢◌, ◌<◌};
+ghost use Rattle.std.specs.Prelude.{◌≡◌, ◌<◌};
 ghost use Rattle.std.specs.Process.{exit_status};
 ghost use Rattle.iso_cli.specs.Status.{code_of};
 
 use iso_cli::{Status, main_status};
 use std::process::ExitCode;
 
-fn status_of(rt: &HostRuntime) -> Status
-    ensures { result ≢ Status.Usage }
-{
+fn status_of(rt: &HostRuntime) -> Status {
     let alloc = rt.alloc();
     let Ok(args) = std::env::args(rt) else {
         return Status::NoMemory;
@@ -21,10 +19,10 @@ fn status_of(rt: &HostRuntime) -> Status
     main_status(alloc, &arguments, rt.stdin(), rt.stdout(), rt.stderr())
 }
 
-// What the program ends with: the number of a status other than that of usage.
+// What the program ends with: the number of a status.
 fn exit_code(rt: &HostRuntime) -> ExitCode
     ensures below { exit_status result < 6 }
-    ensures number { (s : Status) × (s ≢ Status.Usage) × (exit_status result ≡ code_of s) }
+    ensures number { (s : Status) × (exit_status result ≡ code_of s) }
 {
     ExitCode::from(status_of(rt).code())
 }

@@ -1,6 +1,6 @@
 use Rattle.std.proofs.Common.{◌≡◌, take, map}
 use Rattle.std.specs.Prelude.{string_bytes}
-use Rattle.iso_cli.specs.Words.{texts_of}
+use Rattle.iso_cli.specs.JobOf.{texts_of}
 use Rattle.iso_cli.proofs.program.as_words.Given as goal
 
 abbrev pub invariant-loop-argument : goal.invariant-loop-argument
