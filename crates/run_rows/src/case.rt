@@ -1,7 +1,7 @@
 // One case: a run of the program over streams in memory, and what it left.
 use iso_cli::isodist;
 use iso_text::{MemSink, MemSource, NoMemory, Text};
-use std::alloc::Global;
+use std::alloc::{AllocError, Global};
 
 /// Room for each report.
 const ROOM: usize = 65_536;
@@ -40,15 +40,24 @@ fn print(alloc: Global, head: &str, code: u8, out: &[u8], err: &[u8]) -> Result<
     Ok(text)
 }
 
+// The words of a case; `''` is an empty word.
+fn words_of<'a>(alloc: Global, line: &'a str) -> Result<Vec<&'a str>, AllocError> {
+    let mut words = Vec::new(alloc);
+    for word in line.split(' ') {
+        match word {
+            "" => (),
+            "''" => words.push("")?,
+            word => words.push(word)?,
+        }
+    }
+    Ok(words)
+}
+
 /// What the program answers to a case.
 pub fn answer(alloc: Global, case: &str) -> Result<Text, NoMemory> {
     let (head, body) = case.split_once('\n').unwrap_or((case, ""));
     let mut parts = head.split(" | ");
-    let words = parts
-        .next()
-        .unwrap_or("")
-        .split(' ')
-        .collect::<Vec<&str>>(alloc)?;
+    let words = words_of(alloc, parts.next().unwrap_or(""))?;
     let mut source = source_of(alloc, parts.next(), body)?;
     let mut out = sink_of(alloc, parts.next())?;
     let mut err = sink_of(alloc, parts.next())?;
