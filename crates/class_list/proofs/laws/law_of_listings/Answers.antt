@@ -2,4 +2,4 @@ use Rattle.class_list.proofs.UniqueLemmas.{listing-one}
 use Rattle.class_list.proofs.laws.law_of_listings.Goals as goal
 
 pub returns : goal.returns
-returns g c = listing-one g.F.Field.field (g.A.Acts.action c.args.acts.now) (g.met.A.Acts.lawful c.args.acts.now)
+returns g c = listing-one g.F.Field.field
