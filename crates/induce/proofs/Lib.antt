@@ -4,6 +4,8 @@ pub mod TableLemmas
 pub mod ArmLemmas
 pub mod MoveLemmas
 pub mod PlaceLemmas
+pub mod PhasedLemmas
+pub mod TurnLemmas
 pub mod ProductLemmas
 pub mod CharacterLemmas
 pub mod WeightLemmas

@@ -14,7 +14,7 @@ use Rattle.induce.specs.Tables.{no_move, IsMoveOf, AreMoves, ArePhases}
 use Rattle.induce.proofs.ListLemmas.{one_longer, at_end}
 use Rattle.kstar.specs.Moves.{MovesArm}
 
-some_rows : (a n x : ℕ) → x < a * n → 0 < n
+pub some_rows : (a n x : ℕ) → x < a * n → 0 < n
 some_rows a zero x l = let c : a * 0 ≡ 0 = omega arith in absurd (omega (arith, l, c))
 some_rows a (suc n) x l = omega arith
 

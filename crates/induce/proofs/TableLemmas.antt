@@ -5,6 +5,7 @@
 -- element-phase: what element r T + t has more has the phase of translation t
 -- number-rotation, number-phase: r_j^-1 g r_i by its number
 -- phase-split: the phase of r_j^-1 g r_i is that of r_j^-1 {E|t} r_j and that of r_j^-1 g' r_i, for g = {E|t} g'
+-- turned-lattice, turned-phase: r_j^-1 {E|t} r_j is {E|R_j^-1 t}
 -- first-block, first-rotation, first-phase: the block (0, 0) of an element of the little group
 -- power-known: the phase of each r_j^-1 g r_i is that of a translation on the first arm
 use Rattle.std.proofs.Common.{◌≡◌, sym, ap, ◌∙◌, subst, ℕ, ◌<◌, ◌+◌, ◌*◌, ◌/◌, ◌%◌, ℤ, true, length, get_or, arith}
@@ -12,9 +13,9 @@ use Rattle.std.proofs.lemmas.Int.{ints}
 use Rattle.std.proofs.lemmas.Nat.{div-mul-add, mod-mul-add, div-add-mod', mod_below}
 use Rattle.algebra.specs.Whole.{whole}
 use Rattle.algebra.specs.WholeLaws.{whole_ring}
-use Rattle.space_ops.specs.Matrix.{Vector, image_under, vector_sum, zero_vector, unit_matrix}
-use Rattle.space_ops.specs.MatrixLaws.{same_vector, unit-matrix_times}
-use Rattle.space_ops.specs.Seitz.{Seitz, seitz_product, seitz_inverse, seitz_identity}
+use Rattle.space_ops.specs.Matrix.{Matrix, Vector, image_under, vector_sum, minus_vector, zero_vector, unit_matrix}
+use Rattle.space_ops.specs.MatrixLaws.{same_vector, unit-matrix_times, image_under-difference}
+use Rattle.space_ops.specs.Seitz.{Seitz, seitz_product, seitz_inverse, seitz_identity, inverse_matrix}
 use Rattle.space_ops.specs.OpLaws.{identity-seitz_product, seitz_product-identity, back-seitz}
 use Rattle.space_ops.specs.Words.{op_at, vector_difference, IsLatticeVector}
 use Rattle.space_ops.specs.WordLaws.{translation, word-identity, word-lattice}
@@ -46,6 +47,17 @@ less_again v t = same_vector _ _ (omega (arith, ints)) (omega (arith, ints)) (om
 
 plain_sum : (u v : Vector ℤ) → vector_sum whole (vector_sum whole u (image_under whole (unit_matrix whole) v)) (zero_vector whole) ≡ vector_sum whole u v
 plain_sum u v = same_vector _ _ (omega (arith, ints)) (omega (arith, ints)) (omega (arith, ints))
+
+drop_zero : (x y : Vector ℤ) → vector_difference (vector_sum whole (minus_vector whole y) x) (zero_vector whole) ≡ vector_difference x y
+drop_zero x y = same_vector _ _ (omega (arith, ints)) (omega (arith, ints)) (omega (arith, ints))
+
+-- -B t + B (v + t) = B v
+turned_shift : (b : Matrix ℤ) (t v : Vector ℤ)
+    → vector_difference (vector_sum whole (minus_vector whole (image_under whole b t)) (image_under whole b (vector_sum whole v (image_under whole (unit_matrix whole) t)))) (zero_vector whole)
+    ≡ image_under whole b v
+turned_shift b t v =
+    let w = vector_sum whole v (image_under whole (unit_matrix whole) t) in
+    drop_zero (image_under whole b w) (image_under whole b t) ∙ sym (image_under-difference whole whole_ring b w t) ∙ ap (image_under whole b) (less_again v t)
 
 no_division : (t n : ℕ) → t < n → t / n ≡ 0
 no_division t n l = let e : 0 * n + t ≡ t = omega arith in subst (λ x. x / n ≡ 0) e (div-mul-add 0 n t l)
@@ -155,6 +167,52 @@ module _ (q : SupercellGroup) (s : WaveStar) (h : IsStarOn q s) where
       let g = rotation_group p.ops in
       part-rotation t j j (translation-below t lt) lj lj ∙ ap (λ r. little_number p s r j j) (no_division t T lt) ∙ ap (g.product (g.inverse b)) (identity-times b lb)
       ∙ (rotation_group-lawful p hp).inverse-product b lb
+
+  turned-rotation : (v : Vector ℤ) (j : ℕ) → IsLatticeVector p.lattice v → j < A → rotation_of p (little_part p s (translation v) j j) ≡ 0
+  turned-rotation v j l lj =
+      let b = get_or s.by j 0 in
+      let lb = h.star.by.below j lj in
+      let g = rotation_group p.ops in
+      let e : rotation_of p (translation v) ≡ 0 = rotation_of-listed p hp (translation v) 0 some (sym (ap (λ (x : Seitz ℤ). x.rot) hp.list.identity)) in
+      part-number p hp s.row s h.star (translation v) j j (translation-of-group v l) lj lj ∙ ap (λ r. little_number p s r j j) e ∙ ap (g.product (g.inverse b)) (identity-times b lb)
+      ∙ (rotation_group-lawful p hp).inverse-product b lb
+
+  -- R_j^-1 v
+  abbrev turned : ℕ → Vector ℤ → Vector ℤ
+  turned j = image_under whole (inverse_matrix whole (representative p s j).rot)
+
+  -- r_j^-1 {E|v} r_j is {E|R_j^-1 v}
+  turned-rest : (v : Vector ℤ) (j : ℕ) → IsLatticeVector p.lattice v → j < A → rest_of p (little_part p s (translation v) j j) ≡ turned j v
+  turned-rest v j l lj =
+      let r = representative p s j in
+      let x = little_part p s (translation v) j j in
+      ap (λ k. vector_difference x.shift (op_at p.ops k).shift) (turned-rotation v j l lj) ∙ ap (λ (g : Seitz ℤ). vector_difference x.shift g.shift) hp.list.identity
+      ∙ turned_shift (inverse_matrix whole r.rot) r.shift v
+
+  turned-of-group : (v : Vector ℤ) (j : ℕ) → IsLatticeVector p.lattice v → j < A → IsMemberOf p (little_part p s (translation v) j j)
+  turned-of-group v j l lj = part-member p hp s.row s h.star (translation v) j j (translation-of-group v l) lj lj
+
+  pub turned-lattice : (v : Vector ℤ) (j : ℕ) → IsLatticeVector p.lattice v → j < A → IsLatticeVector p.lattice (image_under whole (inverse_matrix whole (representative p s j).rot) v)
+  turned-lattice v j l lj = subst (IsLatticeVector p.lattice) (turned-rest v j l lj) (member-rest p hp (little_part p s (translation v) j j) (turned-of-group v j l lj))
+
+  -- element t is {E|t}
+  translation-same : (t : ℕ) → t < T → IsSameElement q.d (element t) (translation (translation_at q.translations t))
+  translation-same t lt =
+      let v = translation_at q.translations t in
+      subst (IsSameElement q.d (element t))
+      ((λ i. times (translation (translation_at q.translations (no_remainder t T lt i))) (op_at p.ops (no_division t T lt i))) ∙ ap (times (translation v)) hp.list.identity
+      ∙ seitz_product-identity (translation v))
+      (element-same q h.quotient t)
+
+  pub turned-phase : (t j : ℕ) → t < T → j < A
+      → phase_of s.row (image_under whole (inverse_matrix whole (representative p s j).rot) (translation_at q.translations t)) ≡ part_phase p s (element t) j j
+  turned-phase t j lt lj =
+      let v = translation_at q.translations t in
+      let l = h.quotient.translations.in_lattice t lt in
+      let le = translation-below t lt in
+      sym (same-phase (part t j j) (little_part p s (translation v) j j) (part-of-group t j j le lj lj) (turned-of-group v j l lj)
+      (part-same q h.quotient s.row s h.star (element t) (translation v) j j (member t le) (translation-of-group v l) (translation-same t lt) lj lj)
+      ∙ ap (phase_of s.row) (turned-rest v j l lj))
 
   has_phase : (v : Vector ℤ) → IsLatticeVector p.lattice v → HasPhase s.row v
   has_phase = phases-lattice p.lattice s.row h.phases

@@ -30,7 +30,7 @@ fn indicator(tables: &Tables, quotient: &Quotient, characters: &[Z24]) -> Result
 {
     let mut sum = Z24::zero();
     for q in 0..quotient.order() {
-        sum = sum_of(sum, characters[quotient.product(q, q)])?;
+        sum = sum_of(sum, characters[quotient.square(q)])?;
     }
     Ok(sum)
 }

@@ -15,7 +15,7 @@ use crate::characters::characters;
 use crate::errors::FAMILY;
 use crate::indicator::{dimension, judge};
 use crate::kinds::Kind;
-use crate::places::entry_of;
+use crate::places::{entry_of, moved_arm, phase_at};
 use crate::tables::{Tables, form_tables};
 use crate::weights::form_weights;
 use cyclo24::{K24, Z24};
@@ -142,7 +142,7 @@ fn induced_by(alloc: Global, quotient: &Quotient, tables: Tables) -> Result<Indu
 }
 
 impl Induced {
-    ghost use Rattle.std.specs.Prelude.{◌≡◌, ◌<◌, ◌≤◌, IfOk, IfErr, length};
+    ghost use Rattle.std.specs.Prelude.{◌≡◌, ℕ, ◌<◌, ◌≤◌, ◌+◌, ◌*◌, ◌/◌, IfOk, IfErr, length};
     ghost use Rattle.cyclo24.specs.ExactZ24.{z24_laws};
     ghost use Rattle.cyclo24.specs.K24.{exact24};
     ghost use Rattle.cyclo24.specs.Z24.{exact_z24};
@@ -150,10 +150,11 @@ impl Induced {
     ghost use Rattle.lin_alg.specs.Matrices.{IsRepresentation, AreEqualBelow, unit_entry};
     ghost use Rattle.super_group.specs.Quotient.{SupercellGroup, order_of, quotient_group};
     ghost use Rattle.small_rep.specs.Rep.{IsRepOf, matrices_of};
+    ghost use Rattle.small_rep.specs.SmallRep.{phased};
     ghost use Rattle.induce.specs.CellPhase.{AreWholeOn};
     ghost use Rattle.induce.specs.Induced.{dimension_of, induced_of, weight_of};
     ghost use Rattle.induce.specs.Kinds.{real_dimension};
-    ghost use Rattle.induce.specs.Tables.{dimension_in, matrix_in, character_in};
+    ghost use Rattle.induce.specs.Tables.{size_in, dimension_in, matrix_in, character_in};
     ghost use Rattle.induce.specs.Wide.{IsInduceCause};
     ghost use Rattle.induce.specs.InducedView.{IsInducedOf, star_in, rep_in};
 
@@ -250,5 +251,30 @@ impl Induced {
         ensures { exact_z24 result ≡ matrix_in quotient.now self.now.tables q i j }
     {
         entry_of(&self.tables, quotient, q, i, j)
+    }
+
+    /// The power of z by which the rows of arm j of D(r T + t) are those of D(r T), whatever the
+    /// rotation r: the phase of translation t of the supercell on arm j. Condition: the quotient is
+    /// that of `new`.
+    pub fn phase(&self, quotient: &Quotient, t: usize, j: usize) -> u8
+        requires of { IsInducedOf quotient.now self.now }
+        requires translation { t < length quotient.now.translations }
+        requires arm { j < length (star_in self.now).by }
+        ensures below { result < 24 }
+        ensures matrix { (r a b : ℕ) → r < length quotient.now.parent.ops → a < dimension_in self.now.tables → b < dimension_in self.now.tables → a / size_in self.now.tables ≡ j → matrix_in quotient.now self.now.tables (r * length quotient.now.translations + t) a b ≡ phased result (matrix_in quotient.now self.now.tables (r * length quotient.now.translations) a b) }
+    {
+        phase_at(&self.tables, quotient, t, j)
+    }
+
+    /// The arm to which element q moves arm i: the row of blocks of D(q) that isn't 0 in column i of
+    /// blocks. Condition: the quotient is that of `new`.
+    pub fn moved(&self, quotient: &Quotient, q: usize, i: usize) -> usize
+        requires of { IsInducedOf quotient.now self.now }
+        requires element { q < order_of quotient.now }
+        requires arm { i < length (star_in self.now).by }
+        ensures below { result < length (star_in self.now).by }
+        ensures zero { (a b : ℕ) → a < dimension_in self.now.tables → b < dimension_in self.now.tables → b / size_in self.now.tables ≡ i → (a / size_in self.now.tables ≡ result → ⊥) → matrix_in quotient.now self.now.tables q a b ≡ z24_laws.nought }
+    {
+        moved_arm(&self.tables, quotient, q, i)
     }
 }

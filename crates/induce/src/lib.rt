@@ -6,7 +6,8 @@
 //! `super_group`; a column is the image of a basis vector, arms are the outer index.
 //!
 //! For the layer above: `Induced::new` forms the matrices D(q) over a quotient, or refuses a real
-//! dimension past 24; `entry` is the defined entry, and D(a) D(b) = D(ab). The smallest call:
+//! dimension past 24; `entry` is the defined entry, and D(a) D(b) = D(ab); `phase` and `moved` tell
+//! how a translation changes its rows and which of its blocks aren't 0. The smallest call:
 //! `Induced::new(alloc, &quotient, star, rep)?.entry(&quotient, q, 0, 0)`.
 #![tactic(auto)]
 
@@ -23,6 +24,7 @@ mod phases;
 mod places;
 mod products;
 mod tables;
+mod turned;
 mod weights;
 
 pub use errors::InduceError;

@@ -6,12 +6,13 @@ ghost use Rattle.induce.specs.Arms.{AreArmNumbers};
 ghost use Rattle.induce.specs.Tables.{ArePhases};
 
 use crate::arms::ArmNumber;
+use crate::turned::turned;
 use iso_text::NoMemory;
 use kstar::Star;
 use std::alloc::Global;
 use super_group::Quotient;
 
-/// The phase of r_j^-1 {E|t} r_j, for translation t of the supercell.
+/// The phase of r_j^-1 {E|t} r_j, for translation t of the supercell: that of R_j^-1 t.
 fn phase_of_translation(
     quotient: &Quotient,
     star: &Star,
@@ -25,8 +26,10 @@ fn phase_of_translation(
     requires translation { t < length quotient.now.translations }
     ensures { result ≡ part_phase quotient.now.parent star.now (element_of quotient.now t) j j }
 {
-    let number = quotient.product(arms[j].back, quotient.product(t, arms[j].forth));
-    star.power(quotient.translations()[number % quotient.translations().len()])
+    let back = quotient
+        .group()
+        .op(arms[j].back / quotient.translations().len());
+    star.power(turned(back.rot, quotient.translations()[t]))
 }
 
 /// The phases of all translations on all arms, arm by arm.

@@ -1,8 +1,10 @@
 // The blocks of induced matrices, from the tables.
-ghost use Rattle.std.specs.Prelude.{◌≡◌, ◌<◌, length};
+ghost use Rattle.std.specs.Prelude.{◌≡◌, ℕ, ◌<◌, ◌+◌, ◌*◌, ◌/◌, length};
+ghost use Rattle.cyclo24.specs.ExactZ24.{z24_laws};
 ghost use Rattle.cyclo24.specs.Z24.{exact_z24};
 ghost use Rattle.super_group.specs.Quotient.{order_of};
-ghost use Rattle.induce.specs.Tables.{AreTablesOf, IsPlaceOf, dimension_in, matrix_in};
+ghost use Rattle.small_rep.specs.SmallRep.{phased};
+ghost use Rattle.induce.specs.Tables.{AreTablesOf, IsPlaceOf, size_in, dimension_in, matrix_in};
 
 use crate::errors::ROOT_ORDER;
 use crate::tables::{Place, Tables};
@@ -42,4 +44,30 @@ pub fn entry_of(tables: &Tables, quotient: &Quotient, q: usize, a: usize, b: usi
     } else {
         Z24::zero()
     }
+}
+
+/// The phase of translation t on arm j: that of the rows of arm j of D(r T + t), from those of
+/// D(r T), for each r.
+pub fn phase_at(tables: &Tables, quotient: &Quotient, t: usize, j: usize) -> u8
+    requires tables { AreTablesOf quotient.now tables.now }
+    requires translation { t < length quotient.now.translations }
+    requires arm { j < length tables.now.star.by }
+    ensures below { result < 24 }
+    ensures matrix { (r a b : ℕ) → r < length quotient.now.parent.ops → a < dimension_in tables.now → b < dimension_in tables.now → a / size_in tables.now ≡ j → matrix_in quotient.now tables.now (r * length quotient.now.translations + t) a b ≡ phased result (matrix_in quotient.now tables.now (r * length quotient.now.translations) a b) }
+{
+    let _order = quotient.order();
+    let _arms = tables.star.arms();
+    tables.phases[j * quotient.translations().len() + t]
+}
+
+/// The row of blocks of D(q) that isn't 0 in column i of blocks: the arm to which q moves arm i.
+pub fn moved_arm(tables: &Tables, quotient: &Quotient, q: usize, i: usize) -> usize
+    requires tables { AreTablesOf quotient.now tables.now }
+    requires element { q < order_of quotient.now }
+    requires arm { i < length tables.now.star.by }
+    ensures below { result < length tables.now.star.by }
+    ensures zero { (a b : ℕ) → a < dimension_in tables.now → b < dimension_in tables.now → b / size_in tables.now ≡ i → (a / size_in tables.now ≡ result → ⊥) → matrix_in quotient.now tables.now q a b ≡ z24_laws.nought }
+{
+    let place = place_of(tables, quotient, q, i);
+    place.row
 }

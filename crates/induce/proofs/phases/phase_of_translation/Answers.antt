@@ -1,26 +1,37 @@
-use Rattle.std.proofs.Common.{◌%◌, [], List, ℤ, ap, ◌∙◌, length, get_or}
-use Rattle.space_ops.specs.Op.{vector_of}
-use Rattle.kstar.specs.WaveVector.{phase_of}
-use Rattle.super_group.specs.Quotient.{quotient_group}
-use Rattle.induce.proofs.TableLemmas.{translation-below}
-use Rattle.induce.proofs.ArmLemmas.{forth_below, back_below, phase_is, remainder_lattice}
+use Rattle.std.proofs.Common.{◌≡◌, ◌<◌, ◌/◌, ℤ, List, [], sym, ap, ◌∙◌, subst, length, get_or}
+use Rattle.std.specs.Prelude.{slice_index_or}
+use Rattle.space_ops.specs.declared.lattice.Lattice.{Lattice}
+use Rattle.space_ops.specs.Op.{vector_of, identity_op}
+use Rattle.space_ops.specs.Words.{IsLatticeVector}
+use Rattle.space_ops.specs.Group.{Parent}
+use Rattle.induce.specs.Arms.{no_arm}
+use Rattle.induce.proofs.TurnLemmas.{translation_within, turn_below, turned_lattice, turned_phase}
 use Rattle.induce.proofs.phases.phase_of_translation.Goals as goal
 
-pub product-requires-clause-right : goal.product-requires-clause-right
-product-requires-clause-right c = forth_below c.args.quotient.now c.requires.star.quotient c.args.star.now c.requires.star.star c.args.arms.now c.requires.arms c.args.j c.requires.arm
+pub op-back-requires : goal.op-back-requires
+op-back-requires c =
+    subst (λ (p : Parent). (slice_index_or c.args.arms.now c.args.j no_arm).back / length c.translations.result.now < length p.ops) (sym c.group.ensures)
+    (turn_below c.args.quotient.now c.args.star.now c.requires.star c.args.arms.now c.requires.arms c.args.j c.requires.arm (length c.translations.result.now) (ap length c.translations.ensures))
 
-pub product-number-requires-clause-left : goal.product-number-requires-clause-left
-product-number-requires-clause-left c = back_below c.args.quotient.now c.requires.star.quotient c.args.star.now c.requires.star.star c.args.arms.now c.requires.arms c.args.j c.requires.arm
+pub turned-requires-clause-translation : goal.turned-requires-clause-translation
+turned-requires-clause-translation c =
+    translation_within c.args.quotient.now c.args.star.now c.requires.star c.args.t c.requires.translation (get_or c.translations-2.result.now c.args.t [])
+    (ap (λ (ts : List (List ℤ)). get_or ts c.args.t []) c.translations-2.ensures)
 
 pub power-requires : goal.power-requires
 power-requires c =
-    remainder_lattice c.args.quotient.now c.args.star.now c.requires.star c.args.arms.now c.requires.arms c.product.result c.args.j c.product-number.result (length c.translations-2.result.now) c.requires.arm
-    c.product-number.ensures.product (ap length c.translations-2.ensures) c.product-number.ensures.below (get_or c.translations.result.now (c.product-number.result % length c.translations-2.result.now) [])
-    (ap (λ (ts : List (List ℤ)). get_or ts (c.product-number.result % length c.translations-2.result.now) []) c.translations.ensures) c.args.star.now.lattice c.requires.star.star.lattice
+    let f : c.op-back.result ≡ slice_index_or c.args.quotient.now.parent.ops ((slice_index_or c.args.arms.now c.args.j no_arm).back / length c.translations.result.now) identity_op =
+    c.op-back.ensures.value ∙ ap (λ (p : Parent). slice_index_or p.ops ((slice_index_or c.args.arms.now c.args.j no_arm).back / length c.translations.result.now) identity_op) c.group.ensures in
+    subst (λ (lattice : Lattice). IsLatticeVector lattice (vector_of c.turned.result)) (sym c.requires.star.star.lattice)
+    (turned_lattice c.args.quotient.now c.args.star.now c.requires.star c.args.arms.now c.requires.arms c.args.j c.requires.arm (length c.translations.result.now) (ap length c.translations.ensures)
+    c.op-back.result f c.args.t c.requires.translation (get_or c.translations-2.result.now c.args.t []) (ap (λ (ts : List (List ℤ)). get_or ts c.args.t []) c.translations-2.ensures)
+    c.turned.result c.turned.ensures)
 
 pub returns : goal.returns
 returns c =
-    phase_is c.args.quotient.now c.args.star.now c.requires.star c.args.arms.now c.requires.arms c.product.result c.args.j c.product-number.result (length c.translations-2.result.now) c.requires.arm
-    c.product-number.ensures.product (ap length c.translations-2.ensures) c.args.t c.args.j (translation-below c.args.quotient.now c.args.star.now c.requires.star c.args.t c.requires.translation) c.requires.arm
-    (c.product.ensures.product ∙ ap ((quotient_group c.args.quotient.now).product c.args.t) (c.requires.arms.forth c.args.j c.requires.arm)) c.power.result
-    (c.power.ensures.value ∙ ap (λ (ts : List (List ℤ)). phase_of c.args.star.now.row (vector_of (get_or ts (c.product-number.result % length c.translations-2.result.now) []))) c.translations.ensures)
+    let f : c.op-back.result ≡ slice_index_or c.args.quotient.now.parent.ops ((slice_index_or c.args.arms.now c.args.j no_arm).back / length c.translations.result.now) identity_op =
+    c.op-back.ensures.value ∙ ap (λ (p : Parent). slice_index_or p.ops ((slice_index_or c.args.arms.now c.args.j no_arm).back / length c.translations.result.now) identity_op) c.group.ensures in
+    c.power.ensures.value
+    ∙ turned_phase c.args.quotient.now c.args.star.now c.requires.star c.args.arms.now c.requires.arms c.args.j c.requires.arm (length c.translations.result.now) (ap length c.translations.ensures)
+    c.op-back.result f c.args.t c.requires.translation (get_or c.translations-2.result.now c.args.t []) (ap (λ (ts : List (List ℤ)). get_or ts c.args.t []) c.translations-2.ensures)
+    c.turned.result c.turned.ensures
