@@ -242,6 +242,13 @@ impl Induced {
         self.weights[q]
     }
 
+    /// The weights of all elements, by their numbers.
+    pub fn weights(&self) -> &[K24]
+        ensures { result.now ≡ self.now.weights }
+    {
+        &self.weights
+    }
+
     /// Entry (i, j) of D(q). Condition: the quotient is that of `new`.
     pub fn entry(&self, quotient: &Quotient, q: usize, i: usize, j: usize) -> Z24
         requires of { IsInducedOf quotient.now self.now }
