@@ -1,6 +1,8 @@
 -- Held forms of a program and their exact rows.
-use Rattle.std.proofs.Common.{◌≡◌, ◌↔◌, ℕ, suc, zero, ◌<◌, Bool, true, false, refl, sym, ◌∙◌, ap, subst, List, [], ◌∷◌, ◌++◌, arith, length, slice_get, Some, Result, Ok, Err, if◌then◌else◌}
-use Rattle.std.specs.List.{IsDistinct, AllByRecursion, list_any}
+use Rattle.std.proofs.Common.{◌≡◌, ◌↔◌, ℕ, suc, zero, ◌<◌, Bool, true, false, refl, sym, ◌∙◌, ap, subst, List, [], ◌∷◌, ◌++◌, arith, length, get_or, slice_get, Some, Result, Ok, Err, if◌then◌else◌}
+use Rattle.std.specs.List.{IsDistinct, AllByRecursion, list_any, position}
+use Rattle.std.proofs.lemmas.List.Quantifiers.{position-Some}
+use Rattle.std.proofs.lemmas.Option.{slice_get-get_or}
 use Rattle.cyclo24.specs.ExactField.{ExactField, Value}
 use Rattle.indexmap.specs.IndexSet.{insert_key}
 use Rattle.lin_alg.specs.CompareLaws.{lines-equal, equal-lines}
@@ -65,6 +67,24 @@ module _ {A : Type 0} (f : ExactField) (value : A → Value f) where
     held-once w (e ∷ es) a d zero (suc j) g l h = let n = exact-length f.laws value es in other-at w e es a.0 a.1 d.0 j (omega arith) h
     held-once w (e ∷ es) a d (suc i) zero g l h = absurd (omega arith)
     held-once w (e ∷ es) a d (suc i) (suc j) g l h = held-once w es a.1 d.1 i j (omega arith) (omega arith) h
+
+    -- a form is found at its place
+    pub found-put : (w : ℕ) (es : List (EchelonView A)) (e : EchelonView A) (p : ℕ) → AreWholeForms f.laws value w es → IsWholeForm f.laws value w e →
+        position (same_rows E e) es ≡ Some p → IsPut (exact_forms f.laws value es) (exact_rows f.laws value e.rows) (exact_forms f.laws value es) p
+    found-put w es e p a b at =
+        let k : EchelonView A = get_or es p e in
+        let t = position-Some (same_rows E e) es p e at in
+        let inside = t.0 in
+        let got : slice_get es p ≡ Some k = slice_get-get_or es p e inside in
+        let whole : IsWholeForm f.laws value w k = whole-at f.laws value w es p k a got in
+        let n = exact-length f.laws value es in
+        record {
+          grown = record { longer = omega arith; first = λ i m. refl };
+          short = omega arith;
+          last = λ i m m'. absurd (omega arith);
+          inside = omega arith;
+          there = exact-at f.laws value es p k got ∙ sym (same-exact w e k b whole t.1);
+        }
 
     -- an inserted form stands at its place
     pub insert-put : (w : ℕ) (es : List (EchelonView A)) (e k : EchelonView A) (p : ℕ) → AreWholeForms f.laws value w es → IsWholeForm f.laws value w e →

@@ -19,7 +19,7 @@ use crate::{CloseError, Form, Subspaces};
 use cyclo24::Field;
 use indexmap::IndexSet;
 use iso_text::NoMemory;
-use lin_alg::{Acts, Steps, zeros};
+use lin_alg::{Acts, Echelon, Steps, zeros};
 use std::alloc::Global;
 use std::sync::ledger::Ledger;
 
@@ -52,6 +52,7 @@ pub fn close<F: Field, G: Acts<F>, L: Ledger>(
     let dim = acts.dim();
     let mut row = zeros(alloc, dim)?;
     let mut tables = Tables {
+        scratch: Echelon::new(alloc, dim),
         held: IndexSet::new(alloc),
         cuts: Vec::new(alloc),
         sources: Vec::new(alloc),
@@ -61,10 +62,10 @@ pub fn close<F: Field, G: Acts<F>, L: Ledger>(
         elements: Vec::new(alloc),
     };
     hold_singles(
-        alloc,
         acts,
         &mut tables.held,
         &mut singles,
+        &mut tables.scratch,
         &mut row,
         limit,
         steps,

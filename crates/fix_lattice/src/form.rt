@@ -45,6 +45,13 @@ impl<F: Field> Form<F> {
     {
         &self.form
     }
+
+    // The form itself, for other rows.
+    pub(crate) fn into_echelon(self) -> Echelon<F>
+        ensures { result ≡ self }
+    {
+        self.form
+    }
 }
 
 impl<F: Field> PartialEq for Form<F> {

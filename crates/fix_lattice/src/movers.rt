@@ -1,5 +1,5 @@
 // The equations of what one element fixes.
-ghost use Rattle.std.specs.Prelude.{◌≡◌, ◌<◌, ◌≤◌, ◌+◌, ◌∷◌, [], ◌⊎◌, ◌↔◌, ℕ, true, Err, IfOk, OnOk, OnErr, IsTrue, length};
+ghost use Rattle.std.specs.Prelude.{◌≡◌, ◌<◌, ◌≤◌, ◌+◌, ◌∷◌, [], ◌⊎◌, ◌↔◌, ℕ, true, Err, OnOk, OnErr, IsTrue, length};
 ghost use Rattle.cyclo24.specs.ExactField.{Value};
 ghost use Rattle.lin_alg.specs.Rows.{vector, exact_rows};
 ghost use Rattle.lin_alg.specs.Action.{Action, entry_of};
@@ -13,7 +13,6 @@ ghost use Rattle.fix_lattice.specs.Wide.{IsWideInserts, IsWideMover};
 
 use cyclo24::{Field, Wide};
 use lin_alg::{Acts, Echelon, LinError, Steps};
-use std::alloc::Global;
 use std::sync::ledger::Ledger;
 
 /// Writes row i of A(q) - 1. After `Wide` the row holds any values.
@@ -34,30 +33,31 @@ pub fn mover_row<F: Field, G: Acts<F>>(
     Ok(())
 }
 
-// The equations of Fix(q): the rows of A(q) - 1 by rising number, inserted into an empty form.
+// Makes a form the equations of Fix(q): the rows of A(q) - 1 by rising number, inserted into the empty
+// form.
 pub(crate) fn fix_form<F: Field, G: Acts<F>, L: Ledger>(
-    alloc: Global,
+    form: &mut Echelon<F>,
     acts: &G,
     q: usize,
     row: &mut [F],
     steps: &mut Steps<L>,
-) -> Result<Echelon<F>, LinError>
+) -> Result<(), LinError>
     requires element { q < (G.action acts.now).group.order }
     requires room { length row.old ≡ (G.action acts.now).dim }
-    ensures form { IfOk result (λ r. IsWholeForm F.field.laws F.value (G.action acts.now).dim r) }
-    ensures fixes { IfOk result (λ r. IsFixForm F.field.laws (G.action acts.now) (q ∷ []) (exact_rows F.field.laws F.value r.rows)) }
+    ensures form { OnOk result (IsWholeForm F.field.laws F.value (G.action acts.now).dim form.new) }
+    ensures fixes { OnOk result (IsFixForm F.field.laws (G.action acts.now) (q ∷ []) (exact_rows F.field.laws F.value form.new.rows)) }
     ensures wide { (result ≡ Err lin_error.Wide) → G.wide acts.now ⊎ (IsWideMover F.field (G.action acts.now) q ⊎ IsWideInserts F.field (G.action acts.now).dim [] (G.action acts.now).dim (mover F.field.laws (G.action acts.now) q)) }
     ensures cost { steps.new ≤ steps.old + (G.action acts.now).dim }
 {
     let dim = acts.dim();
-    let mut form = Echelon::new(alloc, dim);
+    form.clear(dim);
     for i in 0..dim {
-        match insert_mover(&mut form, acts, q, i, row, steps) {
+        match insert_mover(form, acts, q, i, row, steps) {
             Ok(()) => {}
             Err(error) => return Err(error),
         }
     }
-    Ok(form)
+    Ok(())
 }
 
 // Inserts row i of A(q) - 1. The lent row is only room for it.

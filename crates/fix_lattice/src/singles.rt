@@ -13,8 +13,7 @@ use crate::movers::fix_form;
 use crate::{CloseError, Form};
 use cyclo24::Field;
 use indexmap::IndexSet;
-use lin_alg::{Acts, LinError, Steps};
-use std::alloc::Global;
+use lin_alg::{Acts, Echelon, LinError, Steps};
 use std::sync::ledger::Ledger;
 
 // Where the equations of the Fix(q) of each element stand, and for each such place one element.
@@ -26,10 +25,10 @@ pub(crate) struct Singles {
 
 // Holds the equations of Fix(q) for each element q by number.
 pub(crate) fn hold_singles<F: Field, G: Acts<F>, L: Ledger>(
-    alloc: Global,
     acts: &G,
     held: &mut IndexSet<Form<F>>,
     singles: &mut Singles,
+    scratch: &mut Echelon<F>,
     row: &mut [F],
     limit: usize,
     steps: &mut Steps<L>,
@@ -47,7 +46,7 @@ pub(crate) fn hold_singles<F: Field, G: Acts<F>, L: Ledger>(
 {
     for q in 0..acts.order() {
         let before = held.len();
-        let place = hold_single(alloc, acts, held, q, row, limit, steps)?;
+        let place = hold_single(acts, held, q, scratch, row, limit, steps)?;
         push(&mut singles.places, place)?;
         let grew = held.len() > before;
         push_if(&mut singles.elements, q, grew)?;
@@ -55,12 +54,12 @@ pub(crate) fn hold_singles<F: Field, G: Acts<F>, L: Ledger>(
     Ok(())
 }
 
-// Holds the equations of Fix(q), and answers their place.
+// Holds the equations of Fix(q), worked out in a scratch form, and answers their place.
 fn hold_single<F: Field, G: Acts<F>, L: Ledger>(
-    alloc: Global,
     acts: &G,
     held: &mut IndexSet<Form<F>>,
     q: usize,
+    scratch: &mut Echelon<F>,
     row: &mut [F],
     limit: usize,
     steps: &mut Steps<L>,
@@ -76,10 +75,10 @@ fn hold_single<F: Field, G: Acts<F>, L: Ledger>(
     ensures wide { (result ≡ Err close_error.Wide) → G.wide acts.now ⊎ IsWideFixes F.field (G.action acts.now) }
     ensures cost { steps.new ≤ steps.old + (G.action acts.now).dim }
 {
-    let form = match fix_form(alloc, acts, q, row, steps) {
-        Ok(form) => form,
+    match fix_form(scratch, acts, q, row, steps) {
+        Ok(()) => {}
         Err(LinError::Wide) => return Err(CloseError::Wide),
         Err(LinError::NoMemory) => return Err(CloseError::NoMemory),
-    };
-    put(held, Form::new(form), acts.dim(), limit)
+    }
+    put(held, scratch, acts.dim(), limit)
 }

@@ -15,15 +15,17 @@ use crate::singles::Singles;
 use crate::{CloseError, Form, cuts};
 use cyclo24::Field;
 use indexmap::IndexSet;
-use lin_alg::{Acts, LinError, Steps};
+use lin_alg::{Acts, Echelon, LinError, Steps};
 use std::alloc::Global;
 use std::sync::ledger::Ledger;
 
 // Held fixed subspaces, and which two of them were cut. The first forms are the equations of each
 // Fix(q). A cut is one of a form with one of these; `cuts` tells where it stands. Each form behind the
-// first ones is the cut of its source.
+// first ones is the cut of its source. Cuts are worked out in the scratch form, so that only a form that
+// is held takes memory.
 #[derive(Drop)]
 pub(crate) struct Tables<F: Field> {
+    pub(crate) scratch: Echelon<F>,
     pub(crate) held: IndexSet<Form<F>>,
     pub(crate) cuts: Vec<Vec<u16>>,
     pub(crate) sources: Vec<(usize, usize)>,
@@ -71,7 +73,15 @@ pub(crate) fn cut_at<F: Field, G: Acts<F>, L: Ledger>(
     let fixes = given.singles.elements.len();
     cuts::begin(given.alloc, &mut tables.cuts, at, k, fixes)?;
     let before = tables.held.len();
-    let place = cut_one(given, &mut tables.held, at, k, row, steps)?;
+    let place = cut_one(
+        given,
+        &mut tables.held,
+        at,
+        k,
+        &mut tables.scratch,
+        row,
+        steps,
+    )?;
     cuts::write(&mut tables.cuts, at, k, (place + 1) as u16);
     let grew = tables.held.len() > before;
     push_if(&mut tables.sources, (at, k), grew)?;
@@ -114,6 +124,7 @@ fn cut_one<F: Field, G: Acts<F>, L: Ledger>(
     held: &mut IndexSet<Form<F>>,
     at: usize,
     k: usize,
+    scratch: &mut Echelon<F>,
     row: &mut [F],
     steps: &mut Steps<L>,
 ) -> Result<usize, CloseError>
@@ -130,10 +141,10 @@ fn cut_one<F: Field, G: Acts<F>, L: Ledger>(
     ensures wide { (result ≡ Err close_error.Wide) → IsWideFixes F.field (G.action given.now.acts.now) }
     ensures cost { steps.new ≤ steps.old + (G.action given.now.acts.now).dim }
 {
-    let form = match cut_form(given.alloc, held[at].form(), held[k].form(), row, steps) {
-        Ok(form) => form,
+    match cut_form(scratch, held[at].form(), held[k].form(), row, steps) {
+        Ok(()) => {}
         Err(LinError::Wide) => return Err(CloseError::Wide),
         Err(LinError::NoMemory) => return Err(CloseError::NoMemory),
-    };
-    put(held, Form::new(form), given.acts.dim(), given.limit)
+    }
+    put(held, scratch, given.acts.dim(), given.limit)
 }

@@ -40,9 +40,9 @@ loop-i-init g c =
     let f = g.F.Field.field in
     let v = g.F.Field.value in
     let space = c.requires.space in
-    let copied = c.in_ok-form.ensures in
+    let copied = c.in_ok-copy_from.ensures in
     let w = length c.args.row.now in
-    let rows : exact_rows f.laws v c.args.space.now.rows ≡ exact_rows f.laws v c.in_ok-form.form.rows = ap (exact_rows f.laws v) (sym copied.rows) in
+    let rows : exact_rows f.laws v c.args.space.now.rows ≡ exact_rows f.laws v c.copy_from.new.self.rows = ap (exact_rows f.laws v) (sym copied.rows) in
     let form : IsForm f.laws w (exact_rows f.laws v c.args.space.now.rows) = whole-form f.laws v w c.args.space.now space in
     record {
       whole = record { width = copied.width ∙ space.width; whole = copied.whole ∙ space.whole; form = copied.form };

@@ -1,4 +1,4 @@
-use Rattle.std.proofs.Common.{◌≡◌, [], ◌∷◌, inl, inr, sym, ap, subst, Err}
+use Rattle.std.proofs.Common.{[], ◌∷◌, inl, inr, ap, Err}
 use Rattle.lin_alg.specs.Fixed.{IsFixForm}
 use Rattle.lin_alg.specs.Rows.{exact_rows}
 use Rattle.lin_alg.specs.RowLaws.{equality-told}
@@ -23,11 +23,10 @@ returns-clause-put g c =
     let f = g.F.Field.field in
     let v = g.F.Field.value in
     let act = g.G.Acts.action c.args.acts.now in
-    let rows : exact_rows f.laws v c.new.result.rows ≡ exact_rows f.laws v c.in-Ok.form.rows = ap (λ z. exact_rows f.laws v z.rows) c.new.ensures in
-    let fixes : IsFixForm f.laws act (c.args.q ∷ []) (exact_rows f.laws v c.new.result.rows) = subst (IsFixForm f.laws act (c.args.q ∷ [])) (sym rows) c.in-Ok.ensures.fixes in
+    let fixes : IsFixForm f.laws act (c.args.q ∷ []) (exact_rows f.laws v c.fix_form.new.form.rows) = c.in-Ok.ensures.fixes in
     let old = exact_forms f.laws v c.args.held.now.keys in
     let new = exact_forms f.laws v c.put.new.held.keys in
-    ok-map c.put.result (λ p. IsPut old (exact_rows f.laws v c.new.result.rows) new p) (λ p. IsSingleAt f.laws act c.args.q old new p) (λ p put. (exact_rows f.laws v c.new.result.rows, (fixes, put))) c.put.ensures.put
+    ok-map c.put.result (λ p. IsPut old (exact_rows f.laws v c.fix_form.new.form.rows) new p) (λ p. IsSingleAt f.laws act c.args.q old new p) (λ p put. (exact_rows f.laws v c.fix_form.new.form.rows, (fixes, put))) c.put.ensures.put
 
 pub returns-clause-many : goal.returns-clause-many
 returns-clause-many g c e =
@@ -35,11 +34,10 @@ returns-clause-many g c e =
     let v = g.F.Field.value in
     let act = g.G.Acts.action c.args.acts.now in
     let tells = equality-told f v g.F.PartialEq.eq g.F.Ord.cmp g.met.F.Ord.matches_eq g.met.F.Field.value_cmp in
-    let rows : exact_rows f.laws v c.new.result.rows ≡ exact_rows f.laws v c.in-Ok.form.rows = ap (λ z. exact_rows f.laws v z.rows) c.new.ensures in
-    let fixes : IsFixForm f.laws act (c.args.q ∷ []) (exact_rows f.laws v c.new.result.rows) = subst (IsFixForm f.laws act (c.args.q ∷ [])) (sym rows) c.in-Ok.ensures.fixes in
+    let fixes : IsFixForm f.laws act (c.args.q ∷ []) (exact_rows f.laws v c.fix_form.new.form.rows) = c.in-Ok.ensures.fixes in
     let old = exact_forms f.laws v c.args.held.now.keys in
     let new = exact_forms f.laws v c.put.new.held.keys in
-    let x = exact_rows f.laws v c.new.result.rows in
+    let x = exact_rows f.laws v c.fix_form.new.form.rows in
     let many = c.put.ensures.many e in
     held-more f v g.F.PartialEq.eq tells act c.dim.result c.args.limit c.put.new.held.keys c.put.ensures.held many.0
     (put-all f act (IsFixSpace f.laws act) old new x many.1.0 many.1.1 (λ i l. single-fix f act (form_at old i) (c.requires.singles i l)) (single-fix f act x (c.args.q, (c.requires.element, fixes))))

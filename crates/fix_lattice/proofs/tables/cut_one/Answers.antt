@@ -1,6 +1,4 @@
-use Rattle.std.proofs.Common.{◌↔◌, ◌<◌, ℕ, sym, ◌∙◌, ap, subst, length, Some, Err, arith}
-use Rattle.cyclo24.specs.ExactField.{Value}
-use Rattle.lin_alg.specs.Echelon.{IsSolution}
+use Rattle.std.proofs.Common.{◌<◌, ℕ, sym, ◌∙◌, ap, subst, length, Some, Err, arith}
 use Rattle.lin_alg.specs.Rows.{exact_rows}
 use Rattle.lin_alg.specs.RowLaws.{equality-told}
 use Rattle.fix_lattice.specs.Held.{IsFixSpace, IsPut, IsCutAt}
@@ -48,11 +46,11 @@ returns-clause-cut g c =
     let keys = c.args.held.now.keys in
     let old = exact_forms f.laws v keys in
     let new = exact_forms f.laws v c.put.new.held.keys in
-    let x = c.new.result in
+    let x = c.cut_form.new.form in
     let at_space = c.index.ensures ∙ ap Some (sym c.form.ensures.form) in
     let at_by = c.index-2.ensures ∙ ap Some (sym c.form-2.ensures.form) in
-    let whole : IsWholeForm f.laws v act.dim x = subst (λ z. IsWholeForm f.laws v act.dim z) (sym c.new.ensures) (subst (λ (n : ℕ). IsWholeForm f.laws v n c.in-Ok.form) c.requires.room c.in-Ok.ensures.form) in
-    let cut = subst (λ z. (u : ℕ → Value f) → IsSolution f.laws v z u ↔ (IsSolution f.laws v c.form-2.result.now u × IsSolution f.laws v c.form.result.now u)) (sym c.new.ensures) c.in-Ok.ensures.cut in
+    let whole : IsWholeForm f.laws v act.dim x = subst (λ (n : ℕ). IsWholeForm f.laws v n x) c.requires.room c.in-Ok.ensures.form in
+    let cut = c.in-Ok.ensures.cut in
     ok-map c.put.result (λ p. IsPut old (exact_rows f.laws v x.rows) new p) (λ p. IsCutAt f.laws act old c.args.at c.args.k new p)
     (λ p put. cut-at f v act keys c.put.new.held.keys c.args.at c.args.k p c.form.result.now c.form-2.result.now x
     (exact-at f.laws v keys c.args.at c.form.result.now at_space)
@@ -70,11 +68,11 @@ returns-clause-many g c e =
     let keys = c.args.held.now.keys in
     let old = exact_forms f.laws v keys in
     let new = exact_forms f.laws v c.put.new.held.keys in
-    let x = c.new.result in
+    let x = c.cut_form.new.form in
     let at_space = c.index.ensures ∙ ap Some (sym c.form.ensures.form) in
     let at_by = c.index-2.ensures ∙ ap Some (sym c.form-2.ensures.form) in
-    let whole : IsWholeForm f.laws v act.dim x = subst (λ z. IsWholeForm f.laws v act.dim z) (sym c.new.ensures) (subst (λ (n : ℕ). IsWholeForm f.laws v n c.in-Ok.form) c.requires.room c.in-Ok.ensures.form) in
-    let cut = subst (λ z. (u : ℕ → Value f) → IsSolution f.laws v z u ↔ (IsSolution f.laws v c.form-2.result.now u × IsSolution f.laws v c.form.result.now u)) (sym c.new.ensures) c.in-Ok.ensures.cut in
+    let whole : IsWholeForm f.laws v act.dim x = subst (λ (n : ℕ). IsWholeForm f.laws v n x) c.requires.room c.in-Ok.ensures.form in
+    let cut = c.in-Ok.ensures.cut in
     let many = c.put.ensures.many e in
     let made : IsCutAt f.laws act old c.args.at c.args.k new many.1.0 = cut-at f v act keys c.put.new.held.keys c.args.at c.args.k many.1.0 c.form.result.now c.form-2.result.now x
     (exact-at f.laws v keys c.args.at c.form.result.now at_space)
