@@ -4,7 +4,7 @@ use Rattle.kstar.specs.Star.{WaveStar, IsStarOf}
 use Rattle.super_group.specs.Quotient.{SupercellGroup, IsQuotient, order_of}
 use Rattle.small_rep.specs.Rep.{matrices_of}
 use Rattle.small_rep.specs.RepCheck.{CheckedView}
-use Rattle.small_rep.specs.SmallRep.{character_sum}
+use Rattle.small_rep.specs.SmallRep.{Matrices, character_sum}
 use Rattle.induce.specs.Induced.{dimension_of, indicator_sum}
 use Rattle.induce.specs.InducedView.{InducedView, star_in, rep_in, IsInducedOf}
 use Rattle.induce.specs.Kinds.{IsKind, real_dimension, HasTooMany}
@@ -72,7 +72,9 @@ module _ (q : SupercellGroup) (i : IrrepText) (a : AcceptedRep) (held : IsRepHel
   facts-induced vector = record {
     block = held.star.held.block;
     star = subst (IsStarOf q.parent (row_of_irrep i)) (sym star) held.star.held.star;
-    induced = (a.star, matrices_of a.rep.rep, inducible vector);
+    of = of;
+    size = size-is;
+    inducible = (subst (λ (g : Matrices). IsInducible q i (star_in v) g) (sym matrices-are) (subst (λ (s : WaveStar). IsInducible q i s (matrices_of a.rep.rep)) (sym star) (inducible vector)));
     facts = (a.star, matrices_of a.rep.rep, facts-by vector);
   }
 

@@ -11,7 +11,8 @@ use Rattle.super_group.specs.Multipliers.{AreMultipliers}
 use Rattle.super_group.specs.Quotient.{SupercellGroup, IsQuotient, order_in}
 use Rattle.induce.specs.CellPhase.{IsWholeOn}
 use Rattle.small_rep.specs.Rep.{matrices_of}
-use Rattle.induce.specs.InducedView.{InducedView}
+use Rattle.induce.specs.InducedView.{InducedView, star_in}
+use Rattle.induce.specs.Tables.{matrices_in}
 use Rattle.induce.specs.CellPhaseLaws.{multipliers-whole, arms-whole}
 use Rattle.iso_report.specs.declared.refusal.Refusal.TheVariants as refusal
 use Rattle.iso_report.specs.declared.context.AcceptedRep.{AcceptedRep}
@@ -78,7 +79,7 @@ pub reps-given : (q : SupercellGroup) (irreps : List IrrepText) (reps : List Acc
 reps-given q irreps reps h = each-all (IsRepHeld q) (HasRep q.parent) irreps reps (λ i a k. (a.star, matrices_of a.rep.rep, k.rep.rep)) h
 
 pub induced-given : (q : SupercellGroup) (irreps : List IrrepText) (all : List InducedView) → Each (IsInducedHeld q) irreps all → All (HasInduced q) irreps
-induced-given q irreps all h = each-all (IsInducedHeld q) (HasInduced q) irreps all (λ i v k. k.induced) h
+induced-given q irreps all h = each-all (IsInducedHeld q) (HasInduced q) irreps all (λ i v k. (star_in v, matrices_in v.tables, k.inducible)) h
 
 -- the answers for the quotient and the irreps of a file are those for the file
 module _ (d : Divided) (q : SupercellGroup) (irreps : List IrrepText) (e : q ≡ d.quotient) (h : irreps ≡ d.file.irreps) (r : Refusal) where

@@ -73,7 +73,7 @@ module _ (q : SupercellGroup) (s t : WaveStar) (w : IsTwin s t) (n : ℕ) (g h :
       (λ i.
       if is_listed (w.little i) (rotation_of p (part (w.by i))) then phased (phase_of (w.row i) (rest_of p (part (w.by i)))) (h (rotation_of p (part (w.by i))) (x % n) (y % n)) else z24_laws.nought)
 
-  matrix-same : (e x y : ℕ) → x < dimension_of s n → y < dimension_of s n → induced_of q s n g e x y ≡ induced_of q t n h e x y
+  pub matrix-same : (e x y : ℕ) → x < dimension_of s n → y < dimension_of s n → induced_of q s n g e x y ≡ induced_of q t n h e x y
   matrix-same e x y lx ly = entry-same (element_of q e) x y lx ly ∙ twin-entry (element_of q e) x y
 
   character-same : (e : ℕ) → character_at q s n g e ≡ character_at q t n h e

@@ -99,10 +99,10 @@ module _ (q : SupercellGroup) (h : IsQuotient q) (i : IrrepText) where
   some : 0 < order_of q
   some = some-elements q h
 
-  twin : (s t : WaveStar) (g m : Matrices) → IsRepresented p i s g → IsRepresented p i t m → IsTwin s t
+  pub twin : (s t : WaveStar) (g m : Matrices) → IsRepresented p i s g → IsRepresented p i t m → IsTwin s t
   twin s t g m a b = twins p row s t a.star b.star
 
-  alike : (s t : WaveStar) (g m : Matrices) → IsRepresented p i s g → IsRepresented p i t m → Agree s.little i.size g m
+  pub alike : (s t : WaveStar) (g m : Matrices) → IsRepresented p i s g → IsRepresented p i t m → Agree s.little i.size g m
   alike s t g m a b = agree p h.parent i s t a.star b.star g m a.read b.read
 
   same-many : (s t : WaveStar) (g m : Matrices) → IsRepresented p i s g → IsRepresented p i t m → (n : ℕ) → HasTooMany q s i.size g n → HasTooMany q t i.size m n

@@ -1,5 +1,5 @@
 -- A file's bytes have one outcome.
-use Rattle.std.proofs.Common.{ap, ◌∙◌, sym, subst, List}
+use Rattle.std.proofs.Common.{ap, ◌∙◌, sym, subst, List, true, false}
 use Rattle.iso_text.specs.FileLaws.{FilesAreUnique, CausesAreUnique, FilesHaveNoCause}
 use Rattle.iso_report.specs.declared.job.Job.{Job}
 use Rattle.iso_text.specs.FileValue.{File}
@@ -10,12 +10,12 @@ use Rattle.iso_report.specs.Contexts.{Parented, Divided}
 use Rattle.iso_report.specs.Finding.{report}
 use Rattle.iso_report.specs.IrrepReport.{Facts, AreFactsOf}
 use Rattle.iso_report.specs.Irreps.{HasPhase, RefusesPhase, HasRep, RefusesRep, HasInduced, RefusesInduced}
-use Rattle.iso_report.specs.Outcome.{IsFound, AfterReps, AfterOrder, AfterPhases, AfterParent, AfterText}
+use Rattle.iso_report.specs.Outcome.{IsChecked, IsFound, AfterReps, AfterOrder, AfterPhases, AfterParent, AfterText}
 use Rattle.iso_report.specs.OutcomeLaws.{HasOneOutcome}
 use Rattle.iso_report.specs.Stages.{RefusesText, IsRead, RefusesParent, IsParented, RefusesPhases, HavePhases, RefusesOrder, IsDivided, RefusesReps, AreWideReps, HaveReps, RefusesDimensions, AreWideInduced, HaveInduced}
 use Rattle.iso_report.specs.StepLaws.{IsSingleAt, FindsOneAt, After-single-at}
 use Rattle.iso_report.specs.Steps.{never}
-use Rattle.iso_report.proofs.SignUniqueLemmas.{first-listing-one}
+use Rattle.iso_report.proofs.ListUniqueLemmas.{ListingsAreUnique, list-found}
 use Rattle.iso_report.proofs.EachLemmas.{each-same, first-one, first-none}
 use Rattle.iso_report.proofs.IrrepUniqueLemmas.{phase-one, phase-apart, rep-one, rep-apart, induced-one, induced-apart, facts-one}
 use Rattle.iso_report.proofs.UniqueLemmas.{SymbolsAreUnique, ListsAreUnique, text-single, parent-single, order-single, single-at}
@@ -46,32 +46,40 @@ module _ (d : Divided) (h : IsQuotient d.quotient) where
 
   -- ---- what is found behind each step
 
-  found-one : FindsOneAt (IsFound job.Check) d
-  found-one f g (facts, a, e) (other, b, k) u v = e ∙ ap (λ (fs : List Facts). report (check_text d fs)) (each-same (AreFactsOf d.quotient) d.file.irreps facts other (facts-one d.quotient h) a b) ∙ sym k
+  checked-one : FindsOneAt IsChecked d
+  checked-one f g (facts, a, e) (other, b, k) u v = e ∙ ap (λ (fs : List Facts). report (check_text d fs)) (each-same (AreFactsOf d.quotient) d.file.irreps facts other (facts-one d.quotient h) a b) ∙ sym k
 
-  induced-found : FindsOneAt (AfterReps job.Check) d
-  induced-found =
-      After-single-at RefusesDimensions AreWideInduced HaveInduced (IsFound job.Check) d dimensions-single
-      (λ e w. let P : Divided → Type 0 = FindsOneAt (IsFound job.Check) in subst P (sym w.1) found-one)
+  found-one : ListingsAreUnique → (j : Job) → FindsOneAt (IsFound j) d
+  found-one listings job.Check f g a b u v = checked-one f g a b u v
+  found-one listings (job.List wanted after count false) f g a b u v = list-found listings d h wanted after count f g a b u v
+  found-one listings (job.List wanted after count true) f g a b u v = absurd a
+  found-one listings (job.Modes direction) f g a b u v = absurd a
+  found-one listings job.Amps f g a b u v = absurd a
+  found-one listings (job.Demo number) f g a b u v = absurd a
 
-  reps-found : FindsOneAt (AfterOrder job.Check) d
-  reps-found =
-      After-single-at RefusesReps AreWideReps HaveReps (AfterReps job.Check) d reps-single
-      (λ e w. let P : Divided → Type 0 = FindsOneAt (AfterReps job.Check) in subst P (sym w.1) induced-found)
+  induced-found : ListingsAreUnique → (j : Job) → FindsOneAt (AfterReps j) d
+  induced-found listings j =
+      After-single-at RefusesDimensions AreWideInduced HaveInduced (IsFound j) d dimensions-single
+      (λ e w. let P : Divided → Type 0 = FindsOneAt (IsFound j) in subst P (sym w.1) (found-one listings j))
 
-order-found : (p : Parented) → FindsOneAt (AfterPhases job.Check) p
-order-found p = After-single-at RefusesOrder never IsDivided (AfterOrder job.Check) p (single-at RefusesOrder IsDivided order-single p) (λ d w. reps-found d w.quotient)
+  reps-found : ListingsAreUnique → (j : Job) → FindsOneAt (AfterOrder j) d
+  reps-found listings j =
+      After-single-at RefusesReps AreWideReps HaveReps (AfterReps j) d reps-single
+      (λ e w. let P : Divided → Type 0 = FindsOneAt (AfterReps j) in subst P (sym w.1) (induced-found listings j))
 
-phases-found : (p : Parented) → FindsOneAt (AfterParent job.Check) p
-phases-found p =
-    After-single-at RefusesPhases never HavePhases (AfterPhases job.Check) p (phases-single p)
-    (λ q w. let P : Parented → Type 0 = FindsOneAt (AfterPhases job.Check) in subst P (sym w.1) (order-found p))
+module _ (listings : ListingsAreUnique) (j : Job) where
+  order-found : (p : Parented) → FindsOneAt (AfterPhases j) p
+  order-found p = After-single-at RefusesOrder never IsDivided (AfterOrder j) p (single-at RefusesOrder IsDivided order-single p) (λ d w. reps-found d w.quotient listings j)
 
-parent-found : SymbolsAreUnique → ListsAreUnique → (file : File) → FindsOneAt (AfterText job.Check) file
-parent-found symbols lists file =
-    After-single-at RefusesParent never IsParented (AfterParent job.Check) file (single-at RefusesParent IsParented (parent-single symbols lists) file) (λ p w. phases-found p)
+  phases-found : (p : Parented) → FindsOneAt (AfterParent j) p
+  phases-found p =
+      After-single-at RefusesPhases never HavePhases (AfterPhases j) p (phases-single p)
+      (λ q w. let P : Parented → Type 0 = FindsOneAt (AfterPhases j) in subst P (sym w.1) (order-found p))
 
-pub outcome-one : FilesAreUnique → CausesAreUnique → FilesHaveNoCause → SymbolsAreUnique → ListsAreUnique → (j : Job) → HasOneOutcome j
-outcome-one files causes apart symbols lists job.List = λ bytes f g x y u v. first-listing-one bytes f g x y
-outcome-one files causes apart symbols lists job.Check =
-    λ bytes. After-single-at RefusesText never IsRead (AfterText job.Check) bytes (single-at RefusesText IsRead (text-single files causes apart) bytes) (λ file w. parent-found symbols lists file)
+  parent-found : SymbolsAreUnique → ListsAreUnique → (file : File) → FindsOneAt (AfterText j) file
+  parent-found symbols lists file =
+      After-single-at RefusesParent never IsParented (AfterParent j) file (single-at RefusesParent IsParented (parent-single symbols lists) file) (λ p w. phases-found p)
+
+pub outcome-one : FilesAreUnique → CausesAreUnique → FilesHaveNoCause → SymbolsAreUnique → ListsAreUnique → ListingsAreUnique → (j : Job) → HasOneOutcome j
+outcome-one files causes apart symbols lists listings j =
+    λ bytes. After-single-at RefusesText never IsRead (AfterText j) bytes (single-at RefusesText IsRead (text-single files causes apart) bytes) (λ file w. parent-found listings j symbols lists file)

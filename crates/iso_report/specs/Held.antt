@@ -3,7 +3,7 @@
 -- IsStarHeld p i s: its block is in range, and s is the star of its wave vector, whose phases are good
 -- IsCellHeld q i s: and each arm is whole on the supercell
 -- IsRepHeld q i a: and the lines give its small representation
--- facts_in v: the facts of induced matrices; IsInducedHeld q i v: they are those of the irrep
+-- facts_in v: the facts of induced matrices; IsInducedHeld q i v: they are those that the irrep induces
 use Rattle.std.specs.Prelude.{◌≡◌, length}
 use Rattle.iso_text.specs.Ranges.{IsBlock}
 use Rattle.iso_text.specs.declared.sections.IrrepText.{IrrepText}
@@ -14,9 +14,10 @@ use Rattle.small_rep.specs.SmallRep.{character_sum}
 use Rattle.small_rep.specs.Rep.{matrices_of, IsRepOf}
 use Rattle.small_rep.specs.RepCheck.{CheckedView}
 use Rattle.induce.specs.CellPhase.{AreWholeOn}
-use Rattle.induce.specs.InducedView.{InducedView, star_in, rep_in}
+use Rattle.induce.specs.InducedView.{InducedView, star_in, rep_in, IsInducedOf}
+use Rattle.induce.specs.Tables.{size_in, matrices_in}
 use Rattle.iso_report.specs.declared.context.AcceptedRep.{AcceptedRep}
-use Rattle.iso_report.specs.Irreps.{row_of_irrep, HasPhase, IsRepresented, HasInduced}
+use Rattle.iso_report.specs.Irreps.{row_of_irrep, HasPhase, IsRepresented, IsInducible}
 use Rattle.iso_report.specs.IrrepReport.{Facts, AreFactsOf}
 
 pub record IsStarHeld (p : Parent) (i : IrrepText) (s : WaveStar) : Type 0 where
@@ -51,5 +52,7 @@ facts_in v = record {
 pub record IsInducedHeld (q : SupercellGroup) (i : IrrepText) (v : InducedView) : Type 0 where
   pub block : IsBlock i
   pub star : IsStarOf q.parent (row_of_irrep i) (star_in v)
-  pub induced : HasInduced q i
+  pub of : IsInducedOf q v
+  pub size : size_in v.tables ≡ i.size
+  pub inducible : IsInducible q i (star_in v) (matrices_in v.tables)
   pub facts : AreFactsOf q i (facts_in v)

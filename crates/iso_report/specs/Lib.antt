@@ -27,24 +27,22 @@ pub mod Check
 -- what the program holds of a file
 pub mod Held
 pub mod HeldFiles
--- a finite group that acts on vectors, stabilisers of vectors and fixed subspaces
-pub mod SignAction
--- order parameter directions
-pub mod SignListing
--- one-dimensional representations of a group of operations by the signs 1 and -1
-pub mod SignRep
--- the directions of a sign representation
-pub mod SignDirections
--- what the program's directions stand for
-pub mod SignSeen
--- the files of one sign representation
-pub mod SignFile
--- the texts of the listing of a sign representation
-pub mod SignReport
--- what the definitions say for the files of one sign representation
-pub mod SignOutcome
--- the report that is written of a listing
-pub mod SignTexts
+-- the irrep whose directions are listed
+pub mod Choice
+-- the real form of an irrep
+pub mod RealForms
+-- the fixed subspaces of a real form, and the directions of its classes
+pub mod Closing
+-- the report of `list`
+pub mod ListReport
+-- what pages of the report of `list` obey
+pub mod PageLaws
+-- what `list` finds, step by step
+pub mod Listings
+-- what a real form tells of what was induced
+pub mod HeldForms
+-- what the program holds of a listing
+pub mod HeldListings
 -- the texts of refusals
 pub mod Report
 -- what the definitions say for a job and a file's bytes, step by step in the order of refusals

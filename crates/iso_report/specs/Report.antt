@@ -1,8 +1,9 @@
 -- The texts of refusals.
 --
 -- irrep_words name what: what is wrong with an irrep; line_words n what: with a line
+-- wanted_words wanted: a name that was asked for
 -- refusal_text r: the text of a refusal; line_of r: its line on err
-use Rattle.std.specs.Prelude.{ℕ, List, [], ◌++◌, codes, decimal}
+use Rattle.std.specs.Prelude.{ℕ, List, [], ◌++◌, Option, Some, None, codes, decimal}
 use Rattle.cyclo24.specs.K24.{exact24}
 use Rattle.cyclo24.specs.TextK24.{text24}
 use Rattle.space_ops.specs.OpText.{text_of}
@@ -18,6 +19,11 @@ irrep_words name what = codes "irrep " ++ name ++ what
 -- what is wrong with the line of this number
 abbrev pub line_words : ℕ → List ℕ → List ℕ
 line_words n what = codes "line " ++ decimal n ++ what
+
+-- a name that was asked for, behind a space
+abbrev pub wanted_words : Option (List ℕ) → List ℕ
+wanted_words None = []
+wanted_words (Some name) = codes " " ++ name
 
 -- the text of a refusal
 abbrev pub refusal_text : Refusal → List ℕ
@@ -37,6 +43,8 @@ refusal_text (refusal.NotMultiplying name a b) =
 refusal_text (refusal.NotIrreducible name sum count) = irrep_words name (codes ": character sum ") ++ text24 (exact24 sum) ++ codes ", not " ++ decimal count
 refusal_text (refusal.TooManyDimensions name n) = irrep_words name (codes ": real dimension ") ++ decimal n ++ codes " is past 24"
 refusal_text (refusal.VectorSize n given dimension) = line_words n (codes ": vector of ") ++ decimal given ++ codes " numbers, not " ++ decimal dimension
+refusal_text (refusal.NoSuchIrrep wanted) = codes "no irrep" ++ wanted_words wanted
+refusal_text (refusal.NoRealBasis name) = irrep_words name (codes ": no real basis")
 refusal_text (refusal.TooManySubspaces name limit) = irrep_words name (codes ": more than ") ++ decimal limit ++ codes " fixed subspaces"
 refusal_text (refusal.Wide family) = codes "number past 126 bits in family " ++ decimal family
 refusal_text refusal.NotBuilt = codes "not built"

@@ -4,6 +4,8 @@
 -- After-single: one finding behind a step with one answer, where no family of numbers is wide
 -- IsNoWide f: the finding is no number that passes its bound
 -- After-single-at: one finding behind a step with one answer at a, besides such numbers
+-- IsSingleFor refuses passes a b: a step has one answer at a and b, but for what passes
+-- After-single-for: one finding behind such a step at a and at b, besides such numbers
 use Rattle.std.proofs.Common.{◌≡◌, ◌≢◌, sym, ap, ◌∙◌, subst, ℕ, inl, inr}
 use Rattle.iso_report.specs.declared.refusal.Refusal.{Refusal}
 use Rattle.iso_report.specs.declared.refusal.Refusal.TheVariants.{Wide}
@@ -57,3 +59,23 @@ After-single-at refuses wide passes next a s n f g (inr (inr (b, p, k))) (inr (i
 After-single-at {A} {B} refuses wide passes next a s n f g (inr (inr (b, p, k))) (inr (inr (c, q, m))) u v =
     let P : B → Type 0 = λ x. next x f in
     n c q f g (subst P (s.value b c p q) k) m u v
+
+-- what next finds at b and at c is one, besides numbers that pass their bound
+abbrev pub FindsOneFor : {B : Type 0} → (B → Finding → Type 0) → B → B → Type 0
+FindsOneFor {B} next b c = (f g : Finding) → next b f → next c g → IsNoWide f → IsNoWide g → f ≡ g
+
+-- one refusal of a and b, and a value of neither passes where the other is refused
+pub record IsSingleFor {A B : Type 0} (refuses : A → Refusal → Type 0) (passes : A → B → Type 0) (a b : A) : Type 0 where
+  pub refusal : (r s : Refusal) → refuses a r → refuses b s → r ≡ s
+  pub first : (r : Refusal) (c : B) → refuses a r → passes b c → ⊥
+  pub second : (r : Refusal) (c : B) → passes a c → refuses b r → ⊥
+
+pub After-single-for : {A B : Type 0} (refuses : A → Refusal → Type 0) (wide : A → ℕ → Type 0) (passes : A → B → Type 0) (next : B → Finding → Type 0) (a b : A)
+    → IsSingleFor refuses passes a b → ((c d : B) → passes a c → passes b d → FindsOneFor next c d) → FindsOneFor (After refuses wide passes next) a b
+After-single-for refuses wide passes next a b s n f g (inl (r, x, e)) (inl (q, y, h)) u v = e ∙ ap refused (s.refusal r q x y) ∙ sym h
+After-single-for refuses wide passes next a b s n f g (inl (r, x, e)) (inr (inl (k, y, h))) u v = absurd (v k h)
+After-single-for refuses wide passes next a b s n f g (inl (r, x, e)) (inr (inr (c, q, m))) u v = absurd (s.first r c x q)
+After-single-for refuses wide passes next a b s n f g (inr (inl (k, x, e))) h u v = absurd (u k e)
+After-single-for refuses wide passes next a b s n f g (inr (inr (c, p, k))) (inl (q, y, h)) u v = absurd (s.second q c p y)
+After-single-for refuses wide passes next a b s n f g (inr (inr (c, p, k))) (inr (inl (i, y, h))) u v = absurd (v i h)
+After-single-for refuses wide passes next a b s n f g (inr (inr (c, p, k))) (inr (inr (d, q, m))) u v = n c d p q f g k m u v

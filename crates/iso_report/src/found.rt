@@ -1,11 +1,12 @@
 // What is found for a file's bytes.
 ghost use Rattle.std.specs.Prelude.{◌≡◌, IfOk};
 ghost use Rattle.iso_report.specs.Found.{text_of, IsFoundHeld};
+ghost use Rattle.iso_report.specs.HeldListings.{IsListingHeld};
 
 use crate::check::check_report;
 use crate::context::InducedFile;
-use crate::sign_found::SignFound;
-use crate::sign_outcome::sign_report;
+use crate::list_report::listing_report;
+use crate::listed::ListedIrrep;
 use iso_text::{NoMemory, Text};
 use std::alloc::Global;
 
@@ -14,8 +15,25 @@ use std::alloc::Global;
 pub enum Found {
     /// The parent group, its quotient and the irreps.
     Checked(InducedFile),
-    /// The listing of a sign representation.
-    Listed(SignFound),
+    /// The directions of an irrep.
+    Listed(ListedIrrep),
+}
+
+// The bytes of the report of a listing.
+fn listed_text(alloc: Global, listed: &ListedIrrep) -> Result<Text, NoMemory>
+    requires { IsListingHeld listed.now }
+    ensures { IfOk result (λ text. text ≡ text_of (Found.Listed listed.now)) }
+{
+    listing_report(
+        alloc,
+        listed.format,
+        &listed.name,
+        &listed.quotient,
+        listed.dim,
+        &listed.listing,
+        listed.after,
+        listed.count,
+    )
 }
 
 /// The bytes of the report.
@@ -25,6 +43,6 @@ pub fn report_text(alloc: Global, found: &Found) -> Result<Text, NoMemory>
 {
     match found {
         Found::Checked(file) => check_report(alloc, file),
-        Found::Listed(listed) => sign_report(alloc, listed),
+        Found::Listed(listed) => listed_text(alloc, listed),
     }
 }

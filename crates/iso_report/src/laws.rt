@@ -1,7 +1,10 @@
 // Laws over the definitions, as contracts of functions that do nothing.
 ghost use Rattle.iso_report.specs.OutcomeLaws.{HasOneOutcome};
+ghost use Rattle.iso_report.specs.PageLaws.{PagesJoin};
 
 use crate::job::Job;
+use class_list::{law_of_listings, law_of_pages};
+use cyclo24::K24;
 use hall_symbol::law_of_symbols;
 use iso_text::law_of_files;
 use space_ops::law_of_lists;
@@ -13,4 +16,13 @@ pub fn law_of_outcomes()
     law_of_files();
     law_of_symbols();
     law_of_lists();
+    law_of_listings::<K24>();
+}
+
+/// The lines of the directions of a page, followed by those of the page behind it, are those of one
+/// page.
+pub fn law_of_report_pages()
+    ensures { PagesJoin }
+{
+    law_of_pages::<K24>();
 }

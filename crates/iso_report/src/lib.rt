@@ -5,6 +5,8 @@
 #![tactic(auto)]
 
 mod check;
+mod choice;
+mod closing;
 mod context;
 mod division;
 mod found;
@@ -15,22 +17,19 @@ mod irrep_report;
 mod job;
 mod laws;
 mod list;
+mod list_report;
+mod listed;
+mod listing;
 mod outcome;
 mod parent;
 mod reading;
+mod realising;
 mod refusal;
 mod rep;
-mod sign_direction;
-mod sign_file;
-mod sign_found;
-mod sign_listing;
-mod sign_outcome;
-mod sign_rep;
-mod sign_report;
 mod star;
 mod step;
 
 pub use job::Job;
-pub use laws::law_of_outcomes;
+pub use laws::{law_of_outcomes, law_of_report_pages};
 pub use outcome::run;
 pub use refusal::{Refusal, RunError, refusal_line};

@@ -1,110 +1,125 @@
 // A job over a file's bytes.
-ghost use Rattle.std.specs.Prelude.{◌≡◌, ◌≤◌, length, IfOk, IsErrOf, MatchResult};
+ghost use Rattle.std.specs.Prelude.{◌≡◌, ◌≤◌, true, length, IfOk, IsErrOf, MatchResult};
 ghost use Rattle.iso_report.specs.Endings.{RunIsDone, RunFails, change};
 ghost use Rattle.iso_report.specs.Found.{Finds};
+ghost use Rattle.iso_report.specs.Jobs.{is_built};
 ghost use Rattle.iso_text.specs.Ranges.{IsInRange};
-ghost use Rattle.iso_report.specs.HeldFiles.{AreStarsHeld, AreCellsHeld, AreRepsHeld};
-ghost use Rattle.iso_report.specs.Outcome.{IsFoundIn, AfterText, AfterParent, AfterPhases, AfterOrder, AfterReps, IsOutcome};
+ghost use Rattle.iso_report.specs.HeldFiles.{AreStarsHeld, AreCellsHeld, AreRepsHeld, AreInducedHeld};
+ghost use Rattle.iso_report.specs.Outcome.{IsFound, AfterText, AfterParent, AfterPhases, AfterOrder, AfterReps, IsOutcome};
 
-use crate::context::{Celled, Parented, Represented, Starred};
+use crate::context::{Celled, InducedFile, Parented, Represented, Starred};
 use crate::division::divide;
 use crate::found::{Found, report_text};
 use crate::induction::induced_of;
 use crate::job::Job;
+use crate::listing::list_found;
 use crate::parent::parent_of;
 use crate::reading::read_file;
 use crate::refusal::{Refusal, RunError};
 use crate::rep::reps_of;
-use crate::sign_outcome::first_listing;
 use crate::star::stars_of;
 use crate::step::Step;
 use iso_text::{Document, MAX_BYTES, NoMemory, Sink, put_all};
 use std::alloc::Global;
 
+// What is found behind the representations that the small ones induce.
+fn after_induced(alloc: Global, job: &Job, file: InducedFile) -> Result<Step<Found>, NoMemory>
+    requires built { is_built job.now ≡ true }
+    requires held { AreInducedHeld file }
+    ensures { IfOk result (Finds (IsFound job.now file.divided)) }
+{
+    match job {
+        Job::Check => Ok(Step::Passed(Found::Checked(file))),
+        Job::List {
+            irrep,
+            after,
+            count,
+            ..
+        } => list_found(alloc, file, *irrep, *after, *count),
+        Job::Modes { .. } | Job::Amps | Job::Demo { .. } => unreachable!(),
+    }
+}
+
 // What is found behind the small representations.
-fn after_reps(alloc: Global, represented: Represented) -> Result<Step<Found>, NoMemory>
-    requires { AreRepsHeld represented }
-    ensures { IfOk result (Finds (AfterReps Job.Check represented.divided)) }
+fn after_reps(alloc: Global, job: &Job, represented: Represented) -> Result<Step<Found>, NoMemory>
+    requires built { is_built job.now ≡ true }
+    requires held { AreRepsHeld represented }
+    ensures { IfOk result (Finds (AfterReps job.now represented.divided)) }
 {
     match induced_of(alloc, represented)? {
-        Step::Passed(file) => Ok(Step::Passed(Found::Checked(file))),
+        Step::Passed(file) => after_induced(alloc, job, file),
         Step::Refused(refusal) => Ok(Step::Refused(refusal)),
     }
 }
 
 // What is found behind the quotient.
-fn after_order(alloc: Global, celled: Celled) -> Result<Step<Found>, NoMemory>
-    requires { AreCellsHeld celled }
-    ensures { IfOk result (Finds (AfterOrder Job.Check celled.divided)) }
+fn after_order(alloc: Global, job: &Job, celled: Celled) -> Result<Step<Found>, NoMemory>
+    requires built { is_built job.now ≡ true }
+    requires held { AreCellsHeld celled }
+    ensures { IfOk result (Finds (AfterOrder job.now celled.divided)) }
 {
     match reps_of(alloc, celled)? {
-        Step::Passed(represented) => after_reps(alloc, represented),
+        Step::Passed(represented) => after_reps(alloc, job, represented),
         Step::Refused(refusal) => Ok(Step::Refused(refusal)),
     }
 }
 
 // What is found behind the wave vectors.
-fn after_phases(alloc: Global, starred: Starred) -> Result<Step<Found>, NoMemory>
-    requires { AreStarsHeld starred }
-    ensures { IfOk result (Finds (AfterPhases Job.Check starred.parented)) }
+fn after_phases(alloc: Global, job: &Job, starred: Starred) -> Result<Step<Found>, NoMemory>
+    requires built { is_built job.now ≡ true }
+    requires held { AreStarsHeld starred }
+    ensures { IfOk result (Finds (AfterPhases job.now starred.parented)) }
 {
     match divide(alloc, starred)? {
-        Step::Passed(celled) => after_order(alloc, celled),
+        Step::Passed(celled) => after_order(alloc, job, celled),
         Step::Refused(refusal) => Ok(Step::Refused(refusal)),
     }
 }
 
 // What is found behind the parent group.
-fn after_parent(alloc: Global, parented: Parented) -> Result<Step<Found>, NoMemory>
-    requires { IsInRange parented.file }
-    ensures { IfOk result (Finds (AfterParent Job.Check parented)) }
+fn after_parent(alloc: Global, job: &Job, parented: Parented) -> Result<Step<Found>, NoMemory>
+    requires built { is_built job.now ≡ true }
+    requires held { IsInRange parented.file }
+    ensures { IfOk result (Finds (AfterParent job.now parented)) }
 {
     match stars_of(alloc, parented)? {
-        Step::Passed(starred) => after_phases(alloc, starred),
+        Step::Passed(starred) => after_phases(alloc, job, starred),
         Step::Refused(refusal) => Ok(Step::Refused(refusal)),
     }
 }
 
 // What is found behind the text.
-fn after_text(alloc: Global, document: Document) -> Result<Step<Found>, NoMemory>
-    requires { IsInRange document }
-    ensures { IfOk result (Finds (AfterText Job.Check document)) }
+fn after_text(alloc: Global, job: &Job, document: Document) -> Result<Step<Found>, NoMemory>
+    requires built { is_built job.now ≡ true }
+    requires held { IsInRange document }
+    ensures { IfOk result (Finds (AfterText job.now document)) }
 {
     match parent_of(alloc, document)? {
-        Step::Passed(parented) => after_parent(alloc, parented),
-        Step::Refused(refusal) => Ok(Step::Refused(refusal)),
-    }
-}
-
-// What the steps find for `check`.
-fn check(alloc: Global, bytes: &[u8]) -> Result<Step<Found>, NoMemory>
-    requires { length bytes.now ≤ MAX_BYTES }
-    ensures { IfOk result (Finds (IsFoundIn Job.Check bytes.now)) }
-{
-    match read_file(alloc, bytes)? {
-        Step::Passed(document) => after_text(alloc, document),
+        Step::Passed(parented) => after_parent(alloc, job, parented),
         Step::Refused(refusal) => Ok(Step::Refused(refusal)),
     }
 }
 
 // What the definitions say for a job and a file's bytes.
 fn find(alloc: Global, job: &Job, bytes: &[u8]) -> Result<Step<Found>, NoMemory>
-    requires { length bytes.now ≤ MAX_BYTES }
+    requires built { is_built job.now ≡ true }
+    requires few { length bytes.now ≤ MAX_BYTES }
     ensures { IfOk result (Finds (IsOutcome job.now bytes.now)) }
 {
-    match job {
-        Job::Check => check(alloc, bytes),
-        Job::List => first_listing(alloc, bytes),
+    match read_file(alloc, bytes)? {
+        Step::Passed(document) => after_text(alloc, job, document),
+        Step::Refused(refusal) => Ok(Step::Refused(refusal)),
     }
 }
 
-/// Writes the report of a job over a file's bytes on out, or says why not. At most `MAX_BYTES`
-/// bytes.
+/// Writes the report of a job over a file's bytes on out, or says why not. A job that is built, and
+/// at most `MAX_BYTES` bytes.
 ///
 /// After a refusal out is as it was. After a failed write out has a prefix of the report, and
 /// counted a fault; after want of memory nothing or a prefix of the report.
 pub fn run<O: Sink>(alloc: Global, job: &Job, bytes: &[u8], out: &mut O) -> Result<(), RunError>
-    requires { length bytes.now ≤ MAX_BYTES }
+    requires built { is_built job.now ≡ true }
+    requires few { length bytes.now ≤ MAX_BYTES }
     ensures answer { MatchResult result
         (λ _. RunIsDone job.now bytes.now (change (O.written out.old) (O.written out.new) (O.faults out.old) (O.faults out.new)))
         (λ e. RunFails job.now bytes.now (change (O.written out.old) (O.written out.new) (O.faults out.old) (O.faults out.new)) e) }

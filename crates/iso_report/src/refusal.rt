@@ -46,6 +46,11 @@ pub enum Refusal {
     /// The given vector of the line of this number has so many numbers, and the representation so
     /// many dimensions.
     VectorSize(u32, u32, u32),
+    /// The file has no irrep of this name; or it has none at all, and none was named.
+    NoSuchIrrep(Option<Name>),
+    /// The irrep of this name is of the real kind, and no vector that is tried has an orbit whose span
+    /// has its dimension.
+    NoRealBasis(Name),
     /// The irrep of this name has more fixed subspaces than this limit.
     TooManySubspaces(Name, u32),
     /// A number of this family of numbers passes 126 bits.
@@ -172,6 +177,18 @@ fn vector_text(alloc: Global, n: u32, given: u32, dimension: u32) -> Result<Text
     Ok(text)
 }
 
+// The text of a name that no irrep has.
+fn no_irrep_text(alloc: Global, wanted: &Option<Name>) -> Result<Text, NoMemory>
+    ensures { IfOk result (λ text. text ≡ refusal_text (Refusal.NoSuchIrrep wanted.now)) }
+{
+    let mut text = plain_text(alloc, b"no irrep")?;
+    if let Some(name) = wanted {
+        text.push(b" ")?;
+        text.push(name.as_slice())?;
+    }
+    Ok(text)
+}
+
 // The text of an irrep with too many fixed subspaces.
 fn subspaces_text(alloc: Global, name: &Name, limit: u32) -> Result<Text, NoMemory>
     ensures { IfOk result (λ text. text ≡ refusal_text (Refusal.TooManySubspaces name.now limit)) }
@@ -212,6 +229,8 @@ fn text_of_refusal(alloc: Global, refusal: &Refusal) -> Result<Text, NoMemory>
         Refusal::NotIrreducible(name, sum, count) => sum_text(alloc, name, *sum, *count),
         Refusal::TooManyDimensions(name, n) => dimensions_text(alloc, name, *n),
         Refusal::VectorSize(n, given, dimension) => vector_text(alloc, *n, *given, *dimension),
+        Refusal::NoSuchIrrep(wanted) => no_irrep_text(alloc, wanted),
+        Refusal::NoRealBasis(name) => irrep_text(alloc, name, b": no real basis"),
         Refusal::TooManySubspaces(name, limit) => subspaces_text(alloc, name, *limit),
         Refusal::Wide(family) => wide_text(alloc, *family),
         Refusal::NotBuilt => plain_text(alloc, b"not built"),

@@ -1,17 +1,16 @@
-use Rattle.iso_report.specs.declared.job.Job.TheVariants as job
 use Rattle.iso_report.specs.Outcome.{AfterOrder}
 use Rattle.iso_report.specs.Stages.{RefusesOrder, IsDivided}
 use Rattle.iso_report.specs.Steps.{never}
 use Rattle.iso_report.proofs.StepLemmas.{found-refused, found-next}
 use Rattle.iso_report.proofs.outcome.after_phases.Goals as goal
 
-pub after_order-requires : goal.after_order-requires
-after_order-requires c = (rw c.in-Passed.is at c.in_ok-celled.ensures).1
+pub after_order-requires-clause-held : goal.after_order-requires-clause-held
+after_order-requires-clause-held c = (rw c.in-Passed.is at c.in_ok-celled.ensures).1
 
 pub returns-in-Passed : goal.returns-in-Passed
 returns-in-Passed c =
     let passed = rw c.in-Passed.is at c.in_ok-celled.ensures in
-    found-next RefusesOrder never IsDivided (AfterOrder job.Check) c.args.starred.parented c.in-Passed.celled.divided passed.0 c.after_order.result c.after_order.ensures
+    found-next RefusesOrder never IsDivided (AfterOrder c.args.job.now) c.args.starred.parented c.in-Passed.celled.divided passed.0 c.after_order.result c.after_order.ensures
 
 pub returns-in-Refused : goal.returns-in-Refused
-returns-in-Refused c = found-refused RefusesOrder never IsDivided (AfterOrder job.Check) c.args.starred.parented c.in-Refused.refusal (rw c.in-Refused.is at c.in_ok-celled.ensures)
+returns-in-Refused c = found-refused RefusesOrder never IsDivided (AfterOrder c.args.job.now) c.args.starred.parented c.in-Refused.refusal (rw c.in-Refused.is at c.in_ok-celled.ensures)

@@ -1,21 +1,20 @@
 use Rattle.std.proofs.Common.{subst, sym}
 use Rattle.iso_text.specs.Ranges.{IsInRange}
-use Rattle.iso_report.specs.declared.job.Job.TheVariants as job
 use Rattle.iso_report.specs.Outcome.{AfterParent}
 use Rattle.iso_report.specs.Stages.{RefusesParent, IsParented}
 use Rattle.iso_report.specs.Steps.{never}
 use Rattle.iso_report.proofs.StepLemmas.{found-refused, found-next}
 use Rattle.iso_report.proofs.outcome.after_text.Goals as goal
 
-pub after_parent-requires : goal.after_parent-requires
-after_parent-requires c =
+pub after_parent-requires-clause-held : goal.after_parent-requires-clause-held
+after_parent-requires-clause-held c =
     let passed = rw c.in-Passed.is at c.in_ok-parented.ensures in
-    subst IsInRange (sym passed.4) c.requires
+    subst IsInRange (sym passed.4) c.requires.held
 
 pub returns-in-Passed : goal.returns-in-Passed
 returns-in-Passed c =
     let passed = rw c.in-Passed.is at c.in_ok-parented.ensures in
-    found-next RefusesParent never IsParented (AfterParent job.Check) c.args.document c.in-Passed.parented passed c.after_parent.result c.after_parent.ensures
+    found-next RefusesParent never IsParented (AfterParent c.args.job.now) c.args.document c.in-Passed.parented passed c.after_parent.result c.after_parent.ensures
 
 pub returns-in-Refused : goal.returns-in-Refused
-returns-in-Refused c = found-refused RefusesParent never IsParented (AfterParent job.Check) c.args.document c.in-Refused.refusal (rw c.in-Refused.is at c.in_ok-parented.ensures)
+returns-in-Refused c = found-refused RefusesParent never IsParented (AfterParent c.args.job.now) c.args.document c.in-Refused.refusal (rw c.in-Refused.is at c.in_ok-parented.ensures)

@@ -1,0 +1,42 @@
+-- What is found behind the steps that all jobs share, by the program's values.
+use Rattle.std.proofs.Common.{◌≡◌, refl, sym, ap, subst, inl, inr, map, ℕ, Bool, true, false, List, Option, Result, IfOk}
+use Rattle.std.proofs.lemmas.Bool.{true≢false}
+use Rattle.iso_report.specs.declared.context.InducedFile.{InducedFile}
+use Rattle.iso_report.specs.declared.found.Found.{Found}
+use Rattle.iso_report.specs.declared.found.Found.TheVariants as found
+use Rattle.iso_report.specs.declared.job.Job.{Job}
+use Rattle.iso_report.specs.declared.job.Job.TheVariants as job
+use Rattle.iso_report.specs.declared.step.Step.{Step}
+use Rattle.iso_report.specs.declared.step.Step.TheVariants as step
+use Rattle.iso_report.specs.Contexts.{Divided}
+use Rattle.iso_report.specs.Finding.{Finding}
+use Rattle.iso_report.specs.Jobs.{is_built}
+use Rattle.iso_report.specs.Listings.{IsListFound}
+use Rattle.iso_report.proofs.StepLemmas.{ok-map}
+use Rattle.iso_report.specs.Found.{Finds, finding_of}
+use Rattle.iso_report.specs.Held.{IsInducedHeld, facts_in}
+use Rattle.iso_report.specs.HeldFiles.{AreInducedHeld}
+use Rattle.iso_report.specs.IrrepReport.{AreFactsOf}
+use Rattle.iso_report.specs.Outcome.{IsFound}
+use Rattle.iso_report.proofs.EachLemmas.{each-map}
+
+-- a checked file
+pub checked-found : (j : Job) (file : InducedFile) → j ≡ job.Check → AreInducedHeld file → Finds (IsFound j file.divided) (step.Passed (found.Checked file))
+checked-found j file e held =
+    let q = file.divided.quotient in
+    let facts = each-map (IsInducedHeld q) (AreFactsOf q) facts_in file.divided.file.irreps file.irreps.items (λ i v h. h.facts) held in
+    let P : Job → Type 0 = λ x. Finds (IsFound x file.divided) (step.Passed (found.Checked file)) in
+    subst P (sym e) ((map facts_in file.irreps.items, facts, refl), held)
+
+list-job : (tally : Bool) (wanted : Option (List ℕ)) (after : ℕ) (count : Option ℕ) (d : Divided) (f : Finding) → is_built (job.List wanted after count tally) ≡ true → IsListFound wanted after count d f
+    → IsFound (job.List wanted after count tally) d f
+list-job false wanted after count d f b h = h
+list-job true wanted after count d f b h = absurd (true≢false (sym b))
+
+-- a listing that is built
+pub list-job-found : {E : Type 0} (j : Job) (wanted : Option (List ℕ)) (after : ℕ) (count : Option ℕ) (tally : Bool) (d : Divided) → j ≡ job.List wanted after count tally → is_built j ≡ true
+    → (r : Result (Step Found) E) → IfOk r (Finds (IsListFound wanted after count d)) → IfOk r (Finds (IsFound j d))
+list-job-found j wanted after count tally d e b r h =
+    let built = subst (λ (x : Job). is_built x ≡ true) e b in
+    subst (λ (x : Job). IfOk r (Finds (IsFound x d))) (sym e)
+    (ok-map (Finds (IsListFound wanted after count d)) (Finds (IsFound (job.List wanted after count tally) d)) (λ st w. (list-job tally wanted after count d (finding_of st) built w.0, w.1)) r h)

@@ -1,0 +1,10 @@
+use Rattle.iso_report.proofs.FoundLemmas.{checked-found, list-job-found}
+use Rattle.iso_report.proofs.outcome.after_induced.Goals as goal
+
+pub returns-in-Check : goal.returns-in-Check
+returns-in-Check c = checked-found c.args.job.now c.args.file c.in-Check.is c.requires.held
+
+pub returns-in-List : goal.returns-in-List
+returns-in-List c =
+    let l = c.in-List in
+    list-job-found c.args.job.now l.irrep l.after l.count l.tally c.args.file.divided l.is c.requires.built c.list_found.result c.list_found.ensures
