@@ -22,3 +22,5 @@ mod NarrowLemmas
 mod AnswerLemmas
 mod AssemblyLemmas
 mod FactorLemmas
+mod SparseLemmas
+mod RepeatLemmas

@@ -20,6 +20,8 @@ pub mod RealBasis
 pub mod Spanned
 -- rows as a real form holds them
 pub mod Vectors
+-- vectors that are 0 but at two places, and translations that repeat earlier ones on them
+pub mod Sparse
 -- the group that acts by kept matrices
 pub mod Actions
 -- what a real form keeps

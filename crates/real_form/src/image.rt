@@ -1,9 +1,9 @@
 // Images of complex vectors, as real ones.
-ghost use Rattle.std.specs.Prelude.{◌≡◌, ◌<◌, ◌+◌, ℕ, IfOk, OnOk, OnErr, length};
+ghost use Rattle.std.specs.Prelude.{◌≡◌, ◌<◌, ◌+◌, ℕ, IfOk, OnOk, OnErr, IsTrue, length};
 ghost use Rattle.cyclo24.specs.K24.{exact24};
 ghost use Rattle.cyclo24.specs.Z24.{exact_z24};
 ghost use Rattle.cyclo24.specs.ExactK24.{k24, k24_laws};
-ghost use Rattle.cyclo24.specs.ExactZ24.{z24, z24_laws};
+ghost use Rattle.cyclo24.specs.ExactZ24.{z24, z24_laws, real_part, imag_part, is_wide_real_part, is_wide_imag_part};
 ghost use Rattle.cyclo24.specs.Sums.{total};
 ghost use Rattle.lin_alg.specs.Rows.{vector};
 ghost use Rattle.lin_alg.specs.Matrices.{apply};
@@ -21,7 +21,7 @@ use lin_alg::add_product;
 use super_group::Quotient;
 
 // The sum and entry (i, j) of D(q) times w[j].
-fn add_term(
+pub(crate) fn add_term(
     quotient: &Quotient,
     induced: &Induced,
     w: &[Z24],
@@ -43,6 +43,30 @@ fn add_term(
         return Ok(sum);
     }
     add_product(sum, induced.entry(quotient, q, i, j), x)
+}
+
+// The real part. That of 0 isn't computed.
+pub(crate) fn real_of(x: Z24) -> Result<K24, Wide>
+    ensures exact { IfOk result (λ r. exact24 r ≡ real_part (exact_z24 x)) }
+    ensures wide { OnErr result (IsTrue (is_wide_real_part (exact_z24 x))) }
+{
+    if x.is_zero() {
+        return Ok(K24::zero());
+    }
+    let part = x.real_part()?;
+    Ok(part)
+}
+
+// The imaginary part. That of 0 isn't computed.
+pub(crate) fn imag_of(x: Z24) -> Result<K24, Wide>
+    ensures exact { IfOk result (λ r. exact24 r ≡ imag_part (exact_z24 x)) }
+    ensures wide { OnErr result (IsTrue (is_wide_imag_part (exact_z24 x))) }
+{
+    if x.is_zero() {
+        return Ok(K24::zero());
+    }
+    let part = x.imag_part()?;
+    Ok(part)
 }
 
 // Entry i of D(q) w: a sum of products from left to right.
@@ -85,10 +109,10 @@ pub(crate) fn image_part(
     let n = induced.dim();
     if p < n {
         let x = image_entry(quotient, induced, w, q, p)?;
-        x.real_part()
+        real_of(x)
     } else {
         let x = image_entry(quotient, induced, w, q, p - n)?;
-        x.imag_part()
+        imag_of(x)
     }
 }
 
@@ -110,8 +134,8 @@ pub(crate) fn fill_image(
     let n = w.len();
     for i in 0..n {
         let x = image_entry(quotient, induced, w, q, i)?;
-        row[i] = x.real_part()?;
-        row[n + i] = x.imag_part()?;
+        row[i] = real_of(x)?;
+        row[n + i] = imag_of(x)?;
     }
     Ok(())
 }

@@ -17,10 +17,13 @@ mod image;
 mod insertion;
 mod lifting;
 mod matrices;
+mod places;
 mod product;
 mod real_basis;
+mod repeats;
 mod search;
 mod span;
+mod sparse;
 
 pub use errors::FormError;
 pub use form::RealForm;

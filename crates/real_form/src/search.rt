@@ -1,19 +1,21 @@
 // The first vector that fits.
-ghost use Rattle.std.specs.Prelude.{◌≡◌, ◌+◌, map, Some, Err, IfOk, IfSome, IfNone, length};
+ghost use Rattle.std.specs.Prelude.{◌≡◌, ◌+◌, ◌*◌, map, Some, Err, IfOk, IfSome, IfNone, length};
 ghost use Rattle.std.specs.Option.{option_copied, ForSome};
 ghost use Rattle.cyclo24.specs.K24.{exact24};
 ghost use Rattle.cyclo24.specs.ExactK24.{k24_laws};
 ghost use Rattle.lin_alg.specs.Rows.{exact_rows, HaveWidth};
 ghost use Rattle.lin_alg.specs.declared.errors.LinError.TheVariants as lin_error;
 ghost use Rattle.super_group.specs.Quotient.{order_of};
-ghost use Rattle.induce.specs.Tables.{dimension_in, matrix_in};
-ghost use Rattle.induce.specs.InducedView.{IsInducedOf};
+ghost use Rattle.induce.specs.Tables.{dimension_in, matrix_in, size_in};
+ghost use Rattle.induce.specs.InducedView.{IsInducedOf, star_in};
 ghost use Rattle.real_form.specs.Orbits.{FirstOf, NoneOf};
 ghost use Rattle.real_form.specs.RealBasis.{IsBasisOf, FitsNot, IsWideSpans};
 ghost use Rattle.real_form.specs.Candidates.{candidate_vector, candidates_of, tried, ArePowers};
+ghost use Rattle.real_form.specs.Sparse.{AreRepeats};
 
 use crate::candidate::{Candidate, candidate_row};
 use crate::candidates::candidates;
+use crate::repeats::repeats;
 use crate::span::span_of;
 use cyclo24::{K24, Z24};
 use induce::Induced;
@@ -56,7 +58,8 @@ fn given_form(
     ensures none { IfOk result (λ answer. IfNone answer (NoneOf (FitsNot (dimension_in induced.now.tables) (order_of quotient.now) (matrix_in quotient.now induced.now.tables)) (tried (dimension_in induced.now.tables) (Some w.now)))) }
     ensures wide { (result ≡ Err lin_error.Wide) → IsWideSpans (dimension_in induced.now.tables) (order_of quotient.now) (matrix_in quotient.now induced.now.tables) (tried (dimension_in induced.now.tables) (Some w.now)) }
 {
-    span_of(alloc, quotient, induced, w)
+    let repeats = repeats(alloc, quotient, induced)?;
+    span_of(alloc, quotient, induced, w, &repeats)
 }
 
 // The same for the candidates.
@@ -72,7 +75,8 @@ fn candidate_form(
     ensures wide { (result ≡ Err lin_error.Wide) → IsWideSpans (dimension_in induced.now.tables) (order_of quotient.now) (matrix_in quotient.now induced.now.tables) (map (candidate_vector (dimension_in induced.now.tables)) (candidates_of (dimension_in induced.now.tables))) }
 {
     let all = candidates(alloc, induced.dim())?;
-    first_form(alloc, quotient, induced, &all)
+    let repeats = repeats(alloc, quotient, induced)?;
+    first_form(alloc, quotient, induced, &all, &repeats)
 }
 
 // The form of the span of the orbit of the first candidate that fits.
@@ -81,8 +85,10 @@ fn first_form(
     quotient: &Quotient,
     induced: &Induced,
     candidates: &[Candidate],
+    repeats: &[bool],
 ) -> Result<Option<Echelon<K24>>, LinError>
     requires of { IsInducedOf quotient.now induced.now }
+    requires repeats { AreRepeats (length quotient.now.parent.ops) (length quotient.now.translations) (dimension_in induced.now.tables) (size_in induced.now.tables) (length (star_in induced.now).by) (matrix_in quotient.now induced.now.tables) repeats.now (length (star_in induced.now).by * length (star_in induced.now).by * length quotient.now.translations) }
     requires powers { ArePowers candidates.now }
     ensures some { IfOk result (λ answer. IfSome answer (λ form. FirstOf (IsBasisOf (dimension_in induced.now.tables) (order_of quotient.now) (matrix_in quotient.now induced.now.tables) (exact_rows k24_laws exact24 form.rows)) (FitsNot (dimension_in induced.now.tables) (order_of quotient.now) (matrix_in quotient.now induced.now.tables)) (map (candidate_vector (dimension_in induced.now.tables)) candidates.now))) }
     ensures shape { IfOk result (λ answer. IfSome answer (λ form. HaveWidth ((dimension_in induced.now.tables) + (dimension_in induced.now.tables)) form.rows)) }
@@ -91,7 +97,7 @@ fn first_form(
 {
     for candidate in candidates {
         let row = candidate_row(alloc, *candidate, induced.dim())?;
-        match span_of(alloc, quotient, induced, &row) {
+        match span_of(alloc, quotient, induced, &row, repeats) {
             Ok(Some(form)) => return Ok(Some(form)),
             Ok(None) => {}
             Err(error) => return Err(error),

@@ -1,5 +1,5 @@
 // The span of an orbit.
-ghost use Rattle.std.specs.Prelude.{◌≡◌, ◌<◌, ◌≤◌, ◌+◌, ◌*◌, ℕ, true, false, Ok, Err, IfOk, IfSome, IfNone, OnOk, OnErr, length};
+ghost use Rattle.std.specs.Prelude.{◌≡◌, ◌<◌, ◌≤◌, ◌+◌, ◌-◌, ◌*◌, ℕ, true, false, Ok, Err, IfOk, IfSome, IfNone, OnOk, OnErr, length, slice_index_or};
 ghost use Rattle.cyclo24.specs.K24.{exact24};
 ghost use Rattle.cyclo24.specs.Z24.{exact_z24};
 ghost use Rattle.cyclo24.specs.ExactK24.{k24, k24_laws};
@@ -10,17 +10,20 @@ ghost use Rattle.lin_alg.specs.Solving.{plain_rows};
 ghost use Rattle.lin_alg.specs.declared.errors.LinError.TheVariants as lin_error;
 ghost use Rattle.lin_alg.specs.declared.echelon.Grew.TheVariants as grew;
 ghost use Rattle.super_group.specs.Quotient.{order_of};
-ghost use Rattle.induce.specs.Tables.{dimension_in, matrix_in};
-ghost use Rattle.induce.specs.InducedView.{IsInducedOf};
+ghost use Rattle.induce.specs.Tables.{dimension_in, matrix_in, size_in};
+ghost use Rattle.induce.specs.InducedView.{IsInducedOf, star_in};
 ghost use Rattle.real_form.specs.Parts.{orbit};
 ghost use Rattle.real_form.specs.Complexes.{z24_parts};
 ghost use Rattle.real_form.specs.Orbits.{Fits};
 ghost use Rattle.real_form.specs.RealBasis.{IsBasisOf};
 ghost use Rattle.real_form.specs.Wide.{IsWideOrbit};
 ghost use Rattle.real_form.specs.Spanned.{HoldsSpan};
+ghost use Rattle.real_form.specs.Sparse.{IsSparse, AreRepeats, AreAgain};
 
-use crate::image::fill_image;
 use crate::insertion::insert;
+use crate::places::{Places, places_of};
+use crate::repeats::{is_repeat, repeats_from};
+use crate::sparse::form_image;
 use cyclo24::{K24, Z24};
 use induce::Induced;
 use lin_alg::{Echelon, Grew, LinError, zeros};
@@ -34,18 +37,20 @@ fn insert_image(
     quotient: &Quotient,
     induced: &Induced,
     w: &[Z24],
+    places: Option<Places>,
     q: usize,
 ) -> Result<Grew, LinError>
     requires of { IsInducedOf quotient.now induced.now }
-    requires element { q < order_of quotient.now }
     requires length { length w.now ≡ (dimension_in induced.now.tables) }
+    requires sparse { IfSome places (λ p. IsSparse z24_laws (dimension_in induced.now.tables) (vector z24_laws exact_z24 w.now) p.first p.last) }
+    requires element { q < order_of quotient.now }
     requires room { length row.old ≡ (dimension_in induced.now.tables) + (dimension_in induced.now.tables) }
     requires held { HoldsSpan k24_laws exact24 ((dimension_in induced.now.tables) + (dimension_in induced.now.tables)) (orbit z24_parts (dimension_in induced.now.tables) (matrix_in quotient.now induced.now.tables) (vector z24_laws exact_z24 w.now)) q form.old }
     ensures held { OnOk result (HoldsSpan k24_laws exact24 ((dimension_in induced.now.tables) + (dimension_in induced.now.tables)) (orbit z24_parts (dimension_in induced.now.tables) (matrix_in quotient.now induced.now.tables) (vector z24_laws exact_z24 w.now)) (q + 1) form.new) }
     ensures member { IfOk result (λ answer. (answer ≡ grew.No) → IsInSpan k24_laws (plain_rows (orbit z24_parts (dimension_in induced.now.tables) (matrix_in quotient.now induced.now.tables) (vector z24_laws exact_z24 w.now)) q) (orbit z24_parts (dimension_in induced.now.tables) (matrix_in quotient.now induced.now.tables) (vector z24_laws exact_z24 w.now) q)) }
     ensures wide { (result ≡ Err lin_error.Wide) → IsWideOrbit (dimension_in induced.now.tables) (order_of quotient.now) (matrix_in quotient.now induced.now.tables) (vector z24_laws exact_z24 w.now) }
 {
-    match fill_image(row, quotient, induced, w, q) {
+    match form_image(row, quotient, induced, w, places, q) {
         Ok(()) => {}
         Err(_) => return Err(LinError::Wide),
     }
@@ -53,6 +58,37 @@ fn insert_image(
         Ok(answer) => Ok(answer),
         Err(error) => Err(error),
     }
+}
+
+// The same for an element behind the first of a block. An image that is marked as one before isn't formed.
+fn insert_other(
+    form: &mut Echelon<K24>,
+    row: &mut [K24],
+    quotient: &Quotient,
+    induced: &Induced,
+    w: &[Z24],
+    places: Option<Places>,
+    repeats: &[bool],
+    from: Option<usize>,
+    first: usize,
+    q: usize,
+) -> Result<Grew, LinError>
+    requires of { IsInducedOf quotient.now induced.now }
+    requires length { length w.now ≡ (dimension_in induced.now.tables) }
+    requires sparse { IfSome places (λ p. IsSparse z24_laws (dimension_in induced.now.tables) (vector z24_laws exact_z24 w.now) p.first p.last) }
+    requires element { q < order_of quotient.now }
+    requires behind { first ≤ q }
+    requires inside { IfSome from (λ k. k + (q - first) < length repeats.now) }
+    requires again { IfSome from (λ k. slice_index_or repeats.now (k + (q - first)) false ≡ true → (b : ℕ) × (b < q) × (orbit z24_parts (dimension_in induced.now.tables) (matrix_in quotient.now induced.now.tables) (vector z24_laws exact_z24 w.now) q ≡ orbit z24_parts (dimension_in induced.now.tables) (matrix_in quotient.now induced.now.tables) (vector z24_laws exact_z24 w.now) b)) }
+    requires room { length row.old ≡ (dimension_in induced.now.tables) + (dimension_in induced.now.tables) }
+    requires held { HoldsSpan k24_laws exact24 ((dimension_in induced.now.tables) + (dimension_in induced.now.tables)) (orbit z24_parts (dimension_in induced.now.tables) (matrix_in quotient.now induced.now.tables) (vector z24_laws exact_z24 w.now)) q form.old }
+    ensures held { OnOk result (HoldsSpan k24_laws exact24 ((dimension_in induced.now.tables) + (dimension_in induced.now.tables)) (orbit z24_parts (dimension_in induced.now.tables) (matrix_in quotient.now induced.now.tables) (vector z24_laws exact_z24 w.now)) (q + 1) form.new) }
+    ensures wide { (result ≡ Err lin_error.Wide) → IsWideOrbit (dimension_in induced.now.tables) (order_of quotient.now) (matrix_in quotient.now induced.now.tables) (vector z24_laws exact_z24 w.now) }
+{
+    if is_repeat(repeats, from, q - first) {
+        return Ok(Grew::No);
+    }
+    insert_image(form, row, quotient, induced, w, places, q)
 }
 
 // Inserts the images under the elements behind the first of a block, up to its end, and answers no as
@@ -63,14 +99,20 @@ fn insert_rest(
     quotient: &Quotient,
     induced: &Induced,
     w: &[Z24],
+    places: Option<Places>,
+    repeats: &[bool],
+    from: Option<usize>,
     first: usize,
     end: usize,
 ) -> Result<bool, LinError>
     requires of { IsInducedOf quotient.now induced.now }
     requires length { length w.now ≡ (dimension_in induced.now.tables) }
+    requires sparse { IfSome places (λ p. IsSparse z24_laws (dimension_in induced.now.tables) (vector z24_laws exact_z24 w.now) p.first p.last) }
+    requires inside { IfSome from (λ k. k + (end - first) ≤ length repeats.now) }
+    requires again { IfSome from (λ k. AreAgain (orbit z24_parts (dimension_in induced.now.tables) (matrix_in quotient.now induced.now.tables) (vector z24_laws exact_z24 w.now)) first (end - first) repeats.now k) }
     requires room { length row.old ≡ (dimension_in induced.now.tables) + (dimension_in induced.now.tables) }
     requires some { first < end }
-    requires inside { end ≤ order_of quotient.now }
+    requires end { end ≤ order_of quotient.now }
     requires held { HoldsSpan k24_laws exact24 ((dimension_in induced.now.tables) + (dimension_in induced.now.tables)) (orbit z24_parts (dimension_in induced.now.tables) (matrix_in quotient.now induced.now.tables) (vector z24_laws exact_z24 w.now)) (first + 1) form.old }
     ensures held { IfOk result (λ few. (few ≡ true) → HoldsSpan k24_laws exact24 ((dimension_in induced.now.tables) + (dimension_in induced.now.tables)) (orbit z24_parts (dimension_in induced.now.tables) (matrix_in quotient.now induced.now.tables) (vector z24_laws exact_z24 w.now)) end form.new) }
     ensures passed { IfOk result (λ few. (few ≡ false) → Fits z24_parts (dimension_in induced.now.tables) (order_of quotient.now) (matrix_in quotient.now induced.now.tables) (vector z24_laws exact_z24 w.now) → ⊥) }
@@ -81,7 +123,9 @@ fn insert_rest(
         if form.len() > n {
             return Ok(false);
         }
-        match insert_image(form, row, quotient, induced, w, q) {
+        match insert_other(
+            form, row, quotient, induced, w, places, repeats, from, first, q,
+        ) {
             Ok(_) => {}
             Err(error) => return Err(error),
         }
@@ -97,10 +141,14 @@ fn insert_block(
     quotient: &Quotient,
     induced: &Induced,
     w: &[Z24],
+    places: Option<Places>,
+    repeats: &[bool],
     r: usize,
 ) -> Result<bool, LinError>
     requires of { IsInducedOf quotient.now induced.now }
     requires length { length w.now ≡ (dimension_in induced.now.tables) }
+    requires sparse { IfSome places (λ p. IsSparse z24_laws (dimension_in induced.now.tables) (vector z24_laws exact_z24 w.now) p.first p.last) }
+    requires repeats { AreRepeats (length quotient.now.parent.ops) (length quotient.now.translations) (dimension_in induced.now.tables) (size_in induced.now.tables) (length (star_in induced.now).by) (matrix_in quotient.now induced.now.tables) repeats.now (length (star_in induced.now).by * length (star_in induced.now).by * length quotient.now.translations) }
     requires room { length row.old ≡ (dimension_in induced.now.tables) + (dimension_in induced.now.tables) }
     requires rotation { r < length quotient.now.parent.ops }
     requires held { HoldsSpan k24_laws exact24 ((dimension_in induced.now.tables) + (dimension_in induced.now.tables)) (orbit z24_parts (dimension_in induced.now.tables) (matrix_in quotient.now induced.now.tables) (vector z24_laws exact_z24 w.now)) (r * length quotient.now.translations) form.old }
@@ -114,9 +162,23 @@ fn insert_block(
     }
     let count = quotient.translations().len();
     let first = r * count;
-    match insert_image(form, row, quotient, induced, w, first) {
+    match insert_image(form, row, quotient, induced, w, places, first) {
         Ok(Grew::No) => Ok(true),
-        Ok(Grew::Yes) => insert_rest(form, row, quotient, induced, w, first, first + count),
+        Ok(Grew::Yes) => {
+            let from = repeats_from(quotient, induced, w, places, repeats, r);
+            insert_rest(
+                form,
+                row,
+                quotient,
+                induced,
+                w,
+                places,
+                repeats,
+                from,
+                first,
+                first + count,
+            )
+        }
         Err(error) => Err(error),
     }
 }
@@ -127,20 +189,25 @@ pub(crate) fn span_of(
     quotient: &Quotient,
     induced: &Induced,
     w: &[Z24],
+    repeats: &[bool],
 ) -> Result<Option<Echelon<K24>>, LinError>
     requires of { IsInducedOf quotient.now induced.now }
     requires length { length w.now ≡ (dimension_in induced.now.tables) }
+    requires repeats { AreRepeats (length quotient.now.parent.ops) (length quotient.now.translations) (dimension_in induced.now.tables) (size_in induced.now.tables) (length (star_in induced.now).by) (matrix_in quotient.now induced.now.tables) repeats.now (length (star_in induced.now).by * length (star_in induced.now).by * length quotient.now.translations) }
     ensures some { IfOk result (λ answer. IfSome answer (λ form. IsBasisOf (dimension_in induced.now.tables) (order_of quotient.now) (matrix_in quotient.now induced.now.tables) (exact_rows k24_laws exact24 form.rows) (vector z24_laws exact_z24 w.now))) }
     ensures shape { IfOk result (λ answer. IfSome answer (λ form. HaveWidth ((dimension_in induced.now.tables) + (dimension_in induced.now.tables)) form.rows)) }
     ensures none { IfOk result (λ answer. IfNone answer (Fits z24_parts (dimension_in induced.now.tables) (order_of quotient.now) (matrix_in quotient.now induced.now.tables) (vector z24_laws exact_z24 w.now) → ⊥)) }
     ensures wide { (result ≡ Err lin_error.Wide) → IsWideOrbit (dimension_in induced.now.tables) (order_of quotient.now) (matrix_in quotient.now induced.now.tables) (vector z24_laws exact_z24 w.now) }
 {
     let n = induced.dim();
+    let places = places_of(w);
     let mut form = Echelon::new(alloc, n + n);
     form.reserve(n + 1)?;
     let mut row = zeros(alloc, n + n)?;
     for r in 0..quotient.group().len() {
-        match insert_block(&mut form, &mut row, quotient, induced, w, r) {
+        match insert_block(
+            &mut form, &mut row, quotient, induced, w, places, repeats, r,
+        ) {
             Ok(true) => {}
             Ok(false) => return Ok(None),
             Err(error) => return Err(error),

@@ -1,4 +1,4 @@
-use Rattle.std.proofs.Common.{◌≡◌, ◌<◌, ◌≤◌, ◌+◌, ℕ, refl, sym, ◌∙◌, subst, length, set}
+use Rattle.std.proofs.Common.{◌≡◌, ◌<◌, ◌≤◌, ◌+◌, ℕ, sym, ◌∙◌, subst, length, set}
 use Rattle.cyclo24.specs.K24.{exact24}
 use Rattle.cyclo24.specs.Z24.{exact_z24}
 use Rattle.cyclo24.specs.ExactK24.{k24}
@@ -31,7 +31,7 @@ returns-in_err-row-clause-wide c =
     let w = vector z24_laws exact_z24 c.args.w.now in
     let l : c.loop-i.i < n = subst (λ (k : ℕ). c.loop-i.i < k) c.requires.length c.loop-i-test.true in
     on-err c.from_residual-in_err-row.result (IsWideImage n D c.args.q w)
-    (wide-re n D w c.args.q c.loop-i.i l (exact_z24 c.in_ok-x.x) c.in_ok-x.ensures.exact (c.in_err-row.ensures.wide.0 refl))
+    (wide-re n D w c.args.q c.loop-i.i l (exact_z24 c.in_ok-x.x) c.in_ok-x.ensures.exact c.in_err-row.ensures.wide)
 
 pub returns-in_err-row-2-clause-wide : goal.returns-in_err-row-2-clause-wide
 returns-in_err-row-2-clause-wide c =
@@ -40,7 +40,7 @@ returns-in_err-row-2-clause-wide c =
     let w = vector z24_laws exact_z24 c.args.w.now in
     let l : c.loop-i.i < n = subst (λ (k : ℕ). c.loop-i.i < k) c.requires.length c.loop-i-test.true in
     on-err c.from_residual-in_err-row-2.result (IsWideImage n D c.args.q w)
-    (wide-im n D w c.args.q c.loop-i.i l (exact_z24 c.in_ok-x.x) c.in_ok-x.ensures.exact (c.in_err-row-2.ensures.wide.0 refl))
+    (wide-im n D w c.args.q c.loop-i.i l (exact_z24 c.in_ok-x.x) c.in_ok-x.ensures.exact c.in_err-row-2.ensures.wide)
 
 pub loop-i-preserved : goal.loop-i-preserved
 loop-i-preserved c =

@@ -8,7 +8,7 @@ use Rattle.real_form.specs.Parts.{orbit}
 use Rattle.real_form.specs.Complexes.{z24_parts}
 use Rattle.real_form.specs.Wide.{IsWideImage}
 use Rattle.real_form.proofs.TermLemmas.{on-err}
-use Rattle.real_form.proofs.ImageLemmas.{ok-map, err-by, part-re, part-im, wide-dot, wide-re, wide-im}
+use Rattle.real_form.proofs.ImageLemmas.{ok-map, err-map, part-re, part-im, wide-dot, wide-re, wide-im}
 use Rattle.real_form.proofs.image.image_part.Goals as goal
 
 pub returns-in_err-x-clause-wide : goal.returns-in_err-x-clause-wide
@@ -36,8 +36,8 @@ returns-in_ok-x-clause-exact c =
     let D = matrix_in c.args.quotient.now c.args.induced.now.tables in
     let w = vector z24_laws exact_z24 c.args.w.now in
     let l : c.args.p < n = subst (λ (k : ℕ). c.args.p < k) c.dim-n.ensures.value c.if-p-n.true in
-    ok-map c.real_part.result (λ x. exact24 x ≡ real_part (exact_z24 c.in_ok-x.x)) (λ x. exact24 x ≡ orbit z24_parts n D w c.args.q c.args.p)
-    (λ x h. h ∙ part-re n D w c.args.q c.args.p l (exact_z24 c.in_ok-x.x) c.in_ok-x.ensures.exact) c.real_part.ensures.exact
+    ok-map c.real_of.result (λ x. exact24 x ≡ real_part (exact_z24 c.in_ok-x.x)) (λ x. exact24 x ≡ orbit z24_parts n D w c.args.q c.args.p)
+    (λ x h. h ∙ part-re n D w c.args.q c.args.p l (exact_z24 c.in_ok-x.x) c.in_ok-x.ensures.exact) c.real_of.ensures.exact
 
 pub returns-in_ok-x-clause-wide : goal.returns-in_ok-x-clause-wide
 returns-in_ok-x-clause-wide c =
@@ -45,8 +45,8 @@ returns-in_ok-x-clause-wide c =
     let D = matrix_in c.args.quotient.now c.args.induced.now.tables in
     let w = vector z24_laws exact_z24 c.args.w.now in
     let l : c.args.p < n = subst (λ (k : ℕ). c.args.p < k) c.dim-n.ensures.value c.if-p-n.true in
-    err-by c.real_part.result (IsTrue (is_wide_real_part (exact_z24 c.in_ok-x.x))) (IsWideImage n D c.args.q w) c.real_part.ensures.wide
-    (wide-re n D w c.args.q c.args.p l (exact_z24 c.in_ok-x.x) c.in_ok-x.ensures.exact)
+    err-map c.real_of.result (IsTrue (is_wide_real_part (exact_z24 c.in_ok-x.x))) (IsWideImage n D c.args.q w)
+    (wide-re n D w c.args.q c.args.p l (exact_z24 c.in_ok-x.x) c.in_ok-x.ensures.exact) c.real_of.ensures.wide
 
 pub returns-in_ok-x-2-clause-exact : goal.returns-in_ok-x-2-clause-exact
 returns-in_ok-x-2-clause-exact c =
@@ -59,8 +59,8 @@ returns-in_ok-x-2-clause-exact c =
     let i = c.args.p - c.dim-n.result in
     let l : i < n = omega (arith, e, past, room) in
     let at : n + i ≡ c.args.p = omega (arith, e, past) in
-    ok-map c.imag_part.result (λ x. exact24 x ≡ imag_part (exact_z24 c.in_ok-x-2.x)) (λ x. exact24 x ≡ orbit z24_parts n D w c.args.q c.args.p)
-    (λ x h. h ∙ part-im n D w c.args.q i l (exact_z24 c.in_ok-x-2.x) c.in_ok-x-2.ensures.exact ∙ ap (orbit z24_parts n D w c.args.q) at) c.imag_part.ensures.exact
+    ok-map c.imag_of.result (λ x. exact24 x ≡ imag_part (exact_z24 c.in_ok-x-2.x)) (λ x. exact24 x ≡ orbit z24_parts n D w c.args.q c.args.p)
+    (λ x h. h ∙ part-im n D w c.args.q i l (exact_z24 c.in_ok-x-2.x) c.in_ok-x-2.ensures.exact ∙ ap (orbit z24_parts n D w c.args.q) at) c.imag_of.ensures.exact
 
 pub returns-in_ok-x-2-clause-wide : goal.returns-in_ok-x-2-clause-wide
 returns-in_ok-x-2-clause-wide c =
@@ -72,5 +72,5 @@ returns-in_ok-x-2-clause-wide c =
     let room = c.requires.place in
     let i = c.args.p - c.dim-n.result in
     let l : i < n = omega (arith, e, past, room) in
-    err-by c.imag_part.result (IsTrue (is_wide_imag_part (exact_z24 c.in_ok-x-2.x))) (IsWideImage n D c.args.q w) c.imag_part.ensures.wide
-    (wide-im n D w c.args.q i l (exact_z24 c.in_ok-x-2.x) c.in_ok-x-2.ensures.exact)
+    err-map c.imag_of.result (IsTrue (is_wide_imag_part (exact_z24 c.in_ok-x-2.x))) (IsWideImage n D c.args.q w)
+    (wide-im n D w c.args.q i l (exact_z24 c.in_ok-x-2.x) c.in_ok-x-2.ensures.exact) c.imag_of.ensures.wide

@@ -1,4 +1,4 @@
-use Rattle.std.proofs.Common.{◌≡◌, ◌+◌, ◌<◌, ℕ, true, refl, sym, ◌∙◌, ap, subst, arith, length, below_more}
+use Rattle.std.proofs.Common.{◌≡◌, ◌<◌, ℕ, true, refl, sym, ◌∙◌, arith, length, below_more}
 use Rattle.lin_alg.specs.Rows.{vector}
 use Rattle.lin_alg.specs.Matrix.{entry, IsWideTerm}
 use Rattle.real_form.proofs.VectorLemmas.{vector-at}

@@ -1,16 +1,19 @@
+use Rattle.std.proofs.Common.{◌*◌, sym, subst, length, List, Bool}
 use Rattle.cyclo24.specs.K24.{exact24}
 use Rattle.cyclo24.specs.Z24.{exact_z24}
 use Rattle.cyclo24.specs.ExactK24.{k24_laws}
 use Rattle.cyclo24.specs.ExactZ24.{z24_laws}
 use Rattle.lin_alg.specs.Rows.{vector, exact_rows}
 use Rattle.super_group.specs.Quotient.{order_of}
-use Rattle.induce.specs.Tables.{dimension_in, matrix_in}
+use Rattle.induce.specs.Tables.{dimension_in, matrix_in, size_in}
+use Rattle.induce.specs.InducedView.{star_in}
 use Rattle.real_form.specs.Orbits.{FirstOf, NoneOf}
 use Rattle.real_form.specs.RealBasis.{IsBasisOf, FitsNot}
 use Rattle.real_form.specs.Candidates.{tried}
 use Rattle.real_form.specs.Wide.{IsWideOrbit}
 use Rattle.std.specs.Prelude.{Some}
 use Rattle.real_form.proofs.AnswerLemmas.{some-map, none-map, first-one, none-one}
+use Rattle.real_form.specs.Sparse.{AreRepeats}
 use Rattle.real_form.proofs.search.given_form.Goals as goal
 
 pub returns-clause-some : goal.returns-clause-some
@@ -36,3 +39,10 @@ returns-clause-wide c e =
     let m = order_of c.args.quotient.now in
     let D = matrix_in c.args.quotient.now c.args.induced.now.tables in
     first-one (IsWideOrbit n m D) (FitsNot n m D) (vector z24_laws exact_z24 c.args.w.now) (c.span_of.ensures.wide e)
+
+pub span_of-requires-clause-repeats : goal.span_of-requires-clause-repeats
+span_of-requires-clause-repeats c =
+    let s = c.args.quotient.now in
+    let A = length (star_in c.args.induced.now).by in
+    subst (λ (xs : List Bool). AreRepeats (length s.parent.ops) (length s.translations) (dimension_in c.args.induced.now.tables) (size_in c.args.induced.now.tables) A (matrix_in s c.args.induced.now.tables) xs (A * A * length s.translations))
+    (sym c.deref.ensures.value) c.in_ok-repeats.ensures

@@ -14,6 +14,7 @@ use Rattle.real_form.specs.Complexes.{z24_parts}
 use Rattle.real_form.specs.Spanned.{HoldsSpan}
 use Rattle.real_form.proofs.SpannedLemmas.{held-passed, held-skip}
 use Rattle.real_form.proofs.Factors.{block-end, some_translation}
+use Rattle.real_form.proofs.RepeatLemmas.{again-block}
 use Rattle.real_form.proofs.BlockLemmas.{block-skipped, next_block}
 use Rattle.real_form.proofs.span.insert_block.Goals as goal
 
@@ -72,13 +73,35 @@ insert_rest-requires-clause-some c =
     let d = ap length c.translations-count.ensures in
     omega (arith, some, d)
 
-pub insert_rest-requires-clause-inside : goal.insert_rest-requires-clause-inside
-insert_rest-requires-clause-inside c =
+pub insert_rest-requires-clause-end : goal.insert_rest-requires-clause-end
+insert_rest-requires-clause-end c =
     let s = c.args.quotient.now in
     let b : c.args.r * length s.translations + length s.translations ≤ order_of s = block-end s c.order-order.ensures.quotient c.args.r c.requires.rotation in
     let e = ap (λ k. c.args.r * length k) c.translations-count.ensures in
     let d = ap length c.translations-count.ensures in
     omega (arith, b, e, d)
+
+pub insert_rest-requires-clause-inside : goal.insert_rest-requires-clause-inside
+insert_rest-requires-clause-inside c =
+    let s = c.args.quotient.now in
+    let T = length s.translations in
+    let n = (dimension_in c.args.induced.now.tables) in
+    let a = orbit z24_parts n (matrix_in s c.args.induced.now.tables) (vector z24_laws exact_z24 c.args.w.now) in
+    let count = length c.translations-count.result.now in
+    let e = ap length c.translations-count.ensures in
+    let both = again-block a (c.args.r * count) count (c.args.r * T) T (length c.args.repeats.now) c.args.repeats.now c.repeats_from-from.result (ap (λ k. c.args.r * k) e) e c.repeats_from-from.ensures.inside c.repeats_from-from.ensures.again in
+    both.0
+
+pub insert_rest-requires-clause-again : goal.insert_rest-requires-clause-again
+insert_rest-requires-clause-again c =
+    let s = c.args.quotient.now in
+    let T = length s.translations in
+    let n = (dimension_in c.args.induced.now.tables) in
+    let a = orbit z24_parts n (matrix_in s c.args.induced.now.tables) (vector z24_laws exact_z24 c.args.w.now) in
+    let count = length c.translations-count.result.now in
+    let e = ap length c.translations-count.ensures in
+    let both = again-block a (c.args.r * count) count (c.args.r * T) T (length c.args.repeats.now) c.args.repeats.now c.repeats_from-from.result (ap (λ k. c.args.r * k) e) e c.repeats_from-from.ensures.inside c.repeats_from-from.ensures.again in
+    both.1
 
 pub returns-in-Ok-No-clause-held : goal.returns-in-Ok-No-clause-held
 returns-in-Ok-No-clause-held c _ =

@@ -19,17 +19,17 @@ returns-in-Ok-insert-clause-held c =
     let n = (dimension_in c.args.induced.now.tables) in
     let a = orbit z24_parts n (matrix_in c.args.quotient.now c.args.induced.now.tables) (vector z24_laws exact_z24 c.args.w.now) in
     let ok = c.in-Ok-insert.ensures in
-    held-next k24 exact24 (n + n) a c.args.q c.args.form.now c.insert.new.form (vector k24_laws exact24 c.fill_image.new.row) c.requires.held c.in-Ok.ensures.exact ok.width ok.whole ok.form ok.span
+    held-next k24 exact24 (n + n) a c.args.q c.args.form.now c.insert.new.form (vector k24_laws exact24 c.form_image.new.row) c.requires.held c.in-Ok.ensures.exact ok.width ok.whole ok.form ok.span
 
 pub returns-in-Ok-insert-clause-member : goal.returns-in-Ok-insert-clause-member
 returns-in-Ok-insert-clause-member c stayed =
     let n = (dimension_in c.args.induced.now.tables) in
     let a = orbit z24_parts n (matrix_in c.args.quotient.now c.args.induced.now.tables) (vector z24_laws exact_z24 c.args.w.now) in
     let ok = c.in-Ok-insert.ensures in
-    held-member k24 exact24 (n + n) a c.args.q c.args.form.now c.insert.new.form (vector k24_laws exact24 c.fill_image.new.row) c.requires.held c.in-Ok.ensures.exact (ok.stays stayed) ok.span
+    held-member k24 exact24 (n + n) a c.args.q c.args.form.now c.insert.new.form (vector k24_laws exact24 c.form_image.new.row) c.requires.held c.in-Ok.ensures.exact (ok.stays stayed) ok.span
 
 pub returns-in-Err-insert-clause-wide : goal.returns-in-Err-insert-clause-wide
 returns-in-Err-insert-clause-wide c e =
     let n = (dimension_in c.args.induced.now.tables) in
     let a = orbit z24_parts n (matrix_in c.args.quotient.now c.args.induced.now.tables) (vector z24_laws exact_z24 c.args.w.now) in
-    inr (held-wide k24 exact24 (n + n) a c.args.q (order_of c.args.quotient.now) c.args.form.now (vector k24_laws exact24 c.fill_image.new.row) c.requires.held c.in-Ok.ensures.exact c.requires.element (c.in-Err-insert.ensures.wide e))
+    inr (held-wide k24 exact24 (n + n) a c.args.q (order_of c.args.quotient.now) c.args.form.now (vector k24_laws exact24 c.form_image.new.row) c.requires.held c.in-Ok.ensures.exact c.requires.element (c.in-Err-insert.ensures.wide e))

@@ -1,0 +1,138 @@
+// Translations whose images of a vector on two arms are images under earlier translations.
+ghost use Rattle.std.specs.Prelude.{◌≡◌, ◌<◌, ◌≤◌, ◌+◌, ◌*◌, ℕ, true, false, Some, IfOk, IfSome, length, slice_index, slice_index_or};
+ghost use Rattle.cyclo24.specs.Z24.{exact_z24};
+ghost use Rattle.cyclo24.specs.ExactZ24.{z24_laws};
+ghost use Rattle.lin_alg.specs.Rows.{vector};
+ghost use Rattle.induce.specs.Tables.{dimension_in, matrix_in, size_in};
+ghost use Rattle.induce.specs.InducedView.{IsInducedOf, star_in};
+ghost use Rattle.real_form.specs.Parts.{orbit};
+ghost use Rattle.real_form.specs.Complexes.{z24_parts};
+ghost use Rattle.real_form.specs.Sparse.{IsSparse, ArePhases, AreRepeats, AreAgain};
+
+use crate::places::Places;
+use cyclo24::Z24;
+use induce::Induced;
+use iso_text::NoMemory;
+use std::alloc::Global;
+use super_group::Quotient;
+
+// The phases of the translations of the supercell on the arms, arm by arm.
+fn phases_of(alloc: Global, quotient: &Quotient, induced: &Induced) -> Result<Vec<u8>, NoMemory>
+    requires of { IsInducedOf quotient.now induced.now }
+    ensures { IfOk result (λ xs. ArePhases (length quotient.now.parent.ops) (length quotient.now.translations) (dimension_in induced.now.tables) (size_in induced.now.tables) (matrix_in quotient.now induced.now.tables) xs.items (length (star_in induced.now).by * length quotient.now.translations)) }
+{
+    let _order = quotient.order();
+    let count = quotient.translations().len();
+    let mut phases: Vec<u8> = Vec::new(alloc);
+    for d in 0..induced.star().arms() * count {
+        match phases.push(induced.phase(quotient, d % count, d / count)) {
+            Ok(()) => {}
+            Err(_) => return Err(NoMemory),
+        }
+    }
+    Ok(phases)
+}
+
+// Whether a translation before t has the phases of t on arms j and k.
+fn is_repeated(phases: &[u8], count: usize, j: usize, k: usize, t: usize) -> bool
+    requires first { j * count + count ≤ length phases.now }
+    requires second { k * count + count ≤ length phases.now }
+    requires translation { t < count }
+    ensures { (result ≡ true) → (b : ℕ) × (b < t) × (slice_index phases.now (j * count + b) ≡ slice_index phases.now (j * count + t)) × (slice_index phases.now (k * count + b) ≡ slice_index phases.now (k * count + t)) }
+{
+    let first = j * count;
+    let second = k * count;
+    for b in 0..t {
+        if phases[first + b] == phases[first + t] && phases[second + b] == phases[second + t] {
+            return true;
+        }
+    }
+    false
+}
+
+// Which translations repeat an earlier one on the arms of a pair, pair by pair of all arms.
+pub(crate) fn repeats(
+    alloc: Global,
+    quotient: &Quotient,
+    induced: &Induced,
+) -> Result<Vec<bool>, NoMemory>
+    requires of { IsInducedOf quotient.now induced.now }
+    ensures { IfOk result (λ xs. AreRepeats (length quotient.now.parent.ops) (length quotient.now.translations) (dimension_in induced.now.tables) (size_in induced.now.tables) (length (star_in induced.now).by) (matrix_in quotient.now induced.now.tables) xs.items (length (star_in induced.now).by * length (star_in induced.now).by * length quotient.now.translations)) }
+{
+    let phases = phases_of(alloc, quotient, induced)?;
+    let _order = quotient.order();
+    let count = quotient.translations().len();
+    let arms = induced.star().arms();
+    let _size = induced.rep().size();
+    let mut repeats: Vec<bool> = Vec::new(alloc);
+    for d in 0..arms * arms * count {
+        let pair = d / count;
+        match repeats.push(is_repeated(&phases, count, pair / arms, pair % arms, d % count)) {
+            Ok(()) => {}
+            Err(_) => return Err(NoMemory),
+        }
+    }
+    Ok(repeats)
+}
+
+// Where those of the arms stand to which rotation r moves the arms of the places: each image of w under
+// a translation that is marked there is that under an earlier one.
+pub(crate) fn repeats_from(
+    quotient: &Quotient,
+    induced: &Induced,
+    w: &[Z24],
+    places: Option<Places>,
+    repeats: &[bool],
+    r: usize,
+) -> Option<usize>
+    requires of { IsInducedOf quotient.now induced.now }
+    requires length { length w.now ≡ (dimension_in induced.now.tables) }
+    requires sparse { IfSome places (λ p. IsSparse z24_laws (dimension_in induced.now.tables) (vector z24_laws exact_z24 w.now) p.first p.last) }
+    requires repeats { AreRepeats (length quotient.now.parent.ops) (length quotient.now.translations) (dimension_in induced.now.tables) (size_in induced.now.tables) (length (star_in induced.now).by) (matrix_in quotient.now induced.now.tables) repeats.now (length (star_in induced.now).by * length (star_in induced.now).by * length quotient.now.translations) }
+    requires rotation { r < length quotient.now.parent.ops }
+    ensures inside { IfSome result (λ k. k + length quotient.now.translations ≤ length repeats.now) }
+    ensures again { IfSome result (λ k. AreAgain (orbit z24_parts (dimension_in induced.now.tables) (matrix_in quotient.now induced.now.tables) (vector z24_laws exact_z24 w.now)) (r * length quotient.now.translations) (length quotient.now.translations) repeats.now k) }
+{
+    match places {
+        Some(places) => Some(pair_from(quotient, induced, w, places, repeats, r)),
+        None => None,
+    }
+}
+
+// The same for the places.
+fn pair_from(
+    quotient: &Quotient,
+    induced: &Induced,
+    w: &[Z24],
+    places: Places,
+    repeats: &[bool],
+    r: usize,
+) -> usize
+    requires of { IsInducedOf quotient.now induced.now }
+    requires length { length w.now ≡ (dimension_in induced.now.tables) }
+    requires sparse { IsSparse z24_laws (dimension_in induced.now.tables) (vector z24_laws exact_z24 w.now) places.first places.last }
+    requires repeats { AreRepeats (length quotient.now.parent.ops) (length quotient.now.translations) (dimension_in induced.now.tables) (size_in induced.now.tables) (length (star_in induced.now).by) (matrix_in quotient.now induced.now.tables) repeats.now (length (star_in induced.now).by * length (star_in induced.now).by * length quotient.now.translations) }
+    requires rotation { r < length quotient.now.parent.ops }
+    ensures inside { result + length quotient.now.translations ≤ length repeats.now }
+    ensures again { AreAgain (orbit z24_parts (dimension_in induced.now.tables) (matrix_in quotient.now induced.now.tables) (vector z24_laws exact_z24 w.now)) (r * length quotient.now.translations) (length quotient.now.translations) repeats.now result }
+{
+    let _order = quotient.order();
+    let count = quotient.translations().len();
+    let arms = induced.star().arms();
+    let size = induced.rep().size();
+    let element = r * count;
+    let arm = induced.moved(quotient, element, places.first / size);
+    let other = induced.moved(quotient, element, places.last / size);
+    (arm * arms + other) * count
+}
+
+// Whether a translation is marked.
+pub(crate) fn is_repeat(repeats: &[bool], from: Option<usize>, t: usize) -> bool
+    requires { IfSome from (λ k. k + t < length repeats.now) }
+    ensures { (result ≡ true) → (k : ℕ) × (from ≡ Some k) × (slice_index_or repeats.now (k + t) false ≡ true) }
+{
+    match from {
+        Some(from) => repeats[from + t],
+        None => false,
+    }
+}
