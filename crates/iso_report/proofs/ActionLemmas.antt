@@ -1,6 +1,6 @@
 -- Actions of one group whose matrices agree have the same fixed subspaces and the same listings.
-use Rattle.std.proofs.Common.{◌≡◌, ◌≢◌, sym, ap, ◌∙◌, subst, ℕ, ◌<◌, ◌≤◌, ◌-◌, ◌↔◌, ℤ, List, [], ◌∷◌, length, arith}
-use Rattle.std.specs.Prelude.{All, Contains, IsSorted}
+use Rattle.std.proofs.Common.{◌≡◌, ◌≢◌, sym, ap, ◌∙◌, subst, ℕ, ◌<◌, ◌≤◌, ◌-◌, ◌↔◌, List, [], ◌∷◌, length, arith}
+use Rattle.std.specs.Prelude.{Contains, IsSorted}
 use Rattle.std.specs.Ordering.{nat_cmp, on, then_cmp, flip_args}
 use Rattle.std.specs.declared.cmp.Ordering.{Ordering}
 use Rattle.std.specs.declared.cmp.Ordering.TheVariants.{Greater}
@@ -12,8 +12,7 @@ use Rattle.cyclo24.specs.Sums.{total}
 use Rattle.cyclo24.specs.TotalLaws.{total-same}
 use Rattle.lin_alg.specs.Action.{Action, IsFixed, entry_of, image}
 use Rattle.lin_alg.specs.Equations.{IsEquationsOf}
-use Rattle.lin_alg.specs.Fixed.{Fix, FixesAll}
-use Rattle.lin_alg.specs.Spans.{AreSame}
+use Rattle.lin_alg.specs.Fixed.{Fix}
 use Rattle.fix_lattice.specs.Lattice.{AreMoreFixes}
 use Rattle.class_list.specs.declared.order.Order.{Order}
 use Rattle.class_list.specs.declared.order.Order.TheVariants.{Dimension, Index}

@@ -7,9 +7,7 @@ use Rattle.std.proofs.lemmas.Option.{slice_get-get_or}
 use Rattle.std.proofs.lemmas.Slice.Eq.{bytes_eq-Decides}
 use Rattle.iso_report.specs.HeldListings.{IsPlaceOf}
 use Rattle.iso_text.specs.declared.sections.IrrepText.{IrrepText}
-use Rattle.iso_report.specs.declared.refusal.Refusal.{Refusal}
-use Rattle.iso_report.specs.declared.refusal.Refusal.TheVariants as refusal
-use Rattle.iso_report.specs.Contexts.{Divided, Chosen}
+use Rattle.iso_report.specs.Contexts.{Divided}
 use Rattle.iso_report.specs.Choice.{IsFirstNamed, HasNone, IsWanted, RefusesChoice, IsChosen, chosen_of}
 use Rattle.iso_report.specs.StepLaws.{IsSingleAt}
 

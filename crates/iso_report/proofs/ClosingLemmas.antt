@@ -1,16 +1,16 @@
 -- The steps behind the real form, by the answers of the calls.
-use Rattle.std.proofs.Common.{◌≡◌, refl, sym, ap, subst, inl, inr, ℕ, ◌≤◌, ◌⊎◌, List, map, arith}
+use Rattle.std.proofs.Common.{◌≡◌, refl, ap, subst, inl, inr, ℕ, ◌≤◌, ◌⊎◌, List, map, arith}
 use Rattle.cyclo24.specs.declared.k24.K24.{K24}
 use Rattle.cyclo24.specs.K24.{exact24}
 use Rattle.cyclo24.specs.ExactK24.{k24, k24_laws}
-use Rattle.fix_lattice.specs.Lattice.{AreMoreFixes, HoldsFixes, HasEachStabiliser, AreStabilisers}
-use Rattle.fix_lattice.specs.Subspaces.{SubspacesView, AreWholeForms, exact_forms}
+use Rattle.fix_lattice.specs.Lattice.{AreMoreFixes}
+use Rattle.fix_lattice.specs.Subspaces.{AreWholeForms}
 use Rattle.fix_lattice.specs.Wide.{IsWideFixes}
 use Rattle.class_list.specs.declared.order.Order.{Order}
 use Rattle.class_list.specs.Directions.{IsListing}
 use Rattle.class_list.specs.Seen.{DirectionView, directions_of}
 use Rattle.class_list.specs.Wide.{IsWideImages}
-use Rattle.super_group.specs.Quotient.{SupercellGroup, order_of}
+use Rattle.super_group.specs.Quotient.{order_of}
 use Rattle.real_form.specs.RealForm.{quotient_of, action_of}
 use Rattle.iso_report.specs.Closing.{limit_of, order_by, RefusesSubspaces, AreWideSubspaces, AreFew, RefusesNone, AreWideClasses}
 use Rattle.iso_report.specs.HeldListings.{formed_in, IsFormedHeld, AreDirections}

@@ -1,5 +1,5 @@
 -- What is found behind the steps that all jobs share, by the program's values.
-use Rattle.std.proofs.Common.{◌≡◌, refl, sym, ap, subst, inl, inr, map, ℕ, Bool, true, false, List, Option, Result, IfOk}
+use Rattle.std.proofs.Common.{◌≡◌, refl, sym, subst, map, ℕ, Bool, true, false, List, Option, Result, IfOk}
 use Rattle.std.proofs.lemmas.Bool.{true≢false}
 use Rattle.iso_report.specs.declared.context.InducedFile.{InducedFile}
 use Rattle.iso_report.specs.declared.found.Found.{Found}

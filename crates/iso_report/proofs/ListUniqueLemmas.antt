@@ -1,17 +1,16 @@
 -- What `list` finds behind the steps that all jobs share is one.
-use Rattle.std.proofs.Common.{◌≡◌, refl, sym, ap, ◌∙◌, subst, inl, inr, ℕ, ◌<◌, List, length, Option}
-use Rattle.algebra.specs.NumberedGroup.{Group, IsGroup}
+use Rattle.std.proofs.Common.{◌≡◌, refl, sym, ap, ◌∙◌, subst, ℕ, ◌<◌, List, length, Option}
+use Rattle.algebra.specs.NumberedGroup.{Group}
 use Rattle.cyclo24.specs.ExactK24.{Exact24, k24, k24_laws}
 use Rattle.cyclo24.specs.ExactZ24.{ExactZ24}
 use Rattle.iso_text.specs.declared.sections.VectorText.{VectorText}
 use Rattle.iso_text.specs.declared.sections.IrrepText.{IrrepText}
 use Rattle.lin_alg.specs.Action.{Action, IsAction, entry_of}
 use Rattle.kstar.specs.Star.{WaveStar}
-use Rattle.super_group.specs.Quotient.{SupercellGroup, IsQuotient, order_of, quotient_group}
+use Rattle.super_group.specs.Quotient.{SupercellGroup, IsQuotient, order_of}
 use Rattle.small_rep.specs.SmallRep.{Matrices}
 use Rattle.induce.specs.declared.kinds.Kind.{Kind}
 use Rattle.induce.specs.declared.kinds.Kind.TheVariants.{Real}
-use Rattle.induce.specs.Induced.{dimension_of, induced_of}
 use Rattle.class_list.specs.declared.order.Order.{Order}
 use Rattle.class_list.specs.Directions.{Direction, IsListing}
 use Rattle.real_form.specs.Complexes.{z24_parts}
@@ -21,11 +20,11 @@ use Rattle.iso_report.specs.declared.refusal.Refusal.TheVariants as refusal
 use Rattle.iso_report.specs.Choice.{RefusesChoice, IsChosen}
 use Rattle.iso_report.specs.Closing.{limit_of, order_by, RefusesSubspaces, AreWideSubspaces, AreFew, RefusesNone, AreWideClasses, IsListed}
 use Rattle.iso_report.specs.Contexts.{Divided, Chosen, Formed, Listed}
-use Rattle.iso_report.specs.Finding.{Finding, report}
+use Rattle.iso_report.specs.Finding.{report}
 use Rattle.iso_report.specs.Listings.{IsReported, AfterClosing, AfterForm, AfterChoice, IsListFound}
 use Rattle.iso_report.specs.ListReport.{listing_text}
-use Rattle.iso_report.specs.RealForms.{tried_of, IsOfKind, matrices_by, dimension_by, IsRealForm, RefusesForm, IsWideFormOf, IsFormed}
-use Rattle.iso_report.specs.StepLaws.{IsSingleAt, FindsOneAt, After-single-at, IsSingleFor, FindsOneFor, After-single-for}
+use Rattle.iso_report.specs.RealForms.{IsOfKind, matrices_by, dimension_by, IsRealForm, RefusesForm, IsWideFormOf, IsFormed}
+use Rattle.iso_report.specs.StepLaws.{FindsOneAt, After-single-at, IsSingleFor, FindsOneFor, After-single-for}
 use Rattle.iso_report.specs.Steps.{never}
 use Rattle.fix_lattice.specs.Lattice.{AreMoreFixes}
 use Rattle.lin_alg.specs.Reduced.{IsReduced}

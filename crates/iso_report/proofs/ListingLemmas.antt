@@ -1,5 +1,5 @@
 -- What is found for `list`, by the program's values.
-use Rattle.std.proofs.Common.{◌≡◌, refl, sym, ap, ◌∙◌, subst, inl, inr, ℕ, zero, suc, ◌<◌, ◌≤◌, List, [], ◌∷◌, length, map, get_or, Option, Some, slice_get, Result, IfOk, arith}
+use Rattle.std.proofs.Common.{◌≡◌, refl, sym, ap, ◌∙◌, subst, inr, ℕ, zero, suc, ◌<◌, ◌≤◌, List, [], ◌∷◌, length, map, get_or, Option, Some, slice_get, Result, IfOk, arith}
 use Rattle.std.specs.Prelude.{All}
 use Rattle.std.proofs.lemmas.List.{get_or_default}
 use Rattle.std.proofs.lemmas.Option.{get_or_from_slice_get}
@@ -13,7 +13,7 @@ use Rattle.iso_report.proofs.StepLemmas.{ok-map, found-next}
 use Rattle.algebra.specs.RisingLists.{IsRisingListOf}
 use Rattle.cyclo24.specs.declared.k24.K24.{K24}
 use Rattle.cyclo24.specs.K24.{exact24}
-use Rattle.cyclo24.specs.ExactK24.{Exact24, k24, k24_laws}
+use Rattle.cyclo24.specs.ExactK24.{k24, k24_laws}
 use Rattle.cyclo24.specs.ExactField.{ExactField, Value}
 use Rattle.lin_alg.specs.Action.{Action, IsAction, IsFixed}
 use Rattle.lin_alg.specs.ActionLaws.{image-identity}
@@ -21,10 +21,10 @@ use Rattle.class_list.specs.Stabilisers.{IsStabiliserOf}
 use Rattle.algebra.specs.RisingListLaws.{has-listed}
 use Rattle.super_group.specs.Quotient.{SupercellGroup, order_of}
 use Rattle.fix_lattice.specs.Subspaces.{AreWholeForms}
-use Rattle.class_list.specs.Directions.{Direction, IsDirection}
+use Rattle.class_list.specs.Directions.{IsDirection}
 use Rattle.class_list.specs.Seen.{DirectionView, direction_of, directions_of}
-use Rattle.real_form.specs.RealForm.{quotient_of, action_of, action_of-lawful}
-use Rattle.iso_report.specs.Closing.{RefusesNone, AreWideClasses, IsListed}
+use Rattle.real_form.specs.RealForm.{action_of, action_of-lawful}
+use Rattle.iso_report.specs.Closing.{IsListed}
 use Rattle.iso_report.specs.Contexts.{Divided, Formed}
 use Rattle.iso_report.specs.Found.{Finds}
 use Rattle.iso_report.specs.HeldListings.{formed_by, formed_in, listed_in, IsPlaceOf, IsFormedHeld, IsListingHeld, AreDirections}

@@ -5,11 +5,10 @@ use Rattle.std.proofs.lemmas.List.{drop-take}
 use Rattle.std.proofs.Math.Seq.{take-take}
 use Rattle.std.specs.List.{enumerate_from}
 use Rattle.cyclo24.specs.ExactK24.{Exact24}
-use Rattle.super_group.specs.Quotient.{SupercellGroup}
 use Rattle.class_list.specs.Directions.{Direction}
 use Rattle.class_list.specs.Pages.{page}
 use Rattle.iso_report.specs.ListReport.{direction_text}
-use Rattle.iso_report.specs.PageLaws.{both, page_lines, PagesJoin}
+use Rattle.iso_report.specs.PageLaws.{both, PagesJoin}
 
 -- pages without count join
 abbrev pub OpenPagesJoin : Type 0

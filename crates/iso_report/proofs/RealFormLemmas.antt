@@ -1,6 +1,5 @@
 -- Real forms of one irrep are one, but for the entries of their matrices past the dimension.
-use Rattle.std.proofs.Common.{◌≡◌, refl, sym, ap, ◌∙◌, subst, inl, inr, ℕ, zero, suc, ◌+◌, ◌*◌, ◌-◌, ◌<◌, ◌⊎◌, Bool, true, false, ltb, ltb-true, if◌then◌else◌, List, [], ◌∷◌, length, Option, arith}
-use Rattle.algebra.specs.SumLaws.{decide}
+use Rattle.std.proofs.Common.{◌≡◌, refl, sym, ap, ◌∙◌, subst, inl, inr, ℕ, zero, suc, ◌+◌, ◌*◌, ◌-◌, ◌<◌, Bool, true, false, ltb, ltb-true, if◌then◌else◌, List, [], ◌∷◌, length, Option, arith}
 use Rattle.cyclo24.specs.ExactK24.{Exact24, k24_laws}
 use Rattle.cyclo24.specs.ExactZ24.{ExactZ24}
 use Rattle.cyclo24.specs.FieldOn.{FieldOn}
@@ -11,13 +10,13 @@ use Rattle.iso_text.specs.declared.sections.VectorText.{VectorText}
 use Rattle.lin_alg.specs.EquationLaws.{eq-self, eq-other}
 use Rattle.lin_alg.specs.Equations.{unit_vector}
 use Rattle.lin_alg.specs.Matrices.{apply}
-use Rattle.lin_alg.specs.Reduced.{IsReduced, EndsAt, ArePast}
+use Rattle.lin_alg.specs.Reduced.{IsReduced, ArePast}
 use Rattle.lin_alg.specs.Solving.{combination}
 use Rattle.lin_alg.specs.SpanLaws.{funext, reduced-unique}
 use Rattle.induce.specs.declared.kinds.Kind.{Kind}
 use Rattle.induce.specs.declared.kinds.Kind.TheVariants.{Real, Complex, Pseudoreal}
 use Rattle.induce.specs.Kinds.{real_dimension}
-use Rattle.real_form.specs.Bases.{row_at, pivot_at, unit_rows, AreMatricesIn}
+use Rattle.real_form.specs.Bases.{row_at, pivot_at, unit_rows}
 use Rattle.real_form.specs.Complexes.{z24_parts}
 use Rattle.real_form.specs.Orbits.{IsFormOf, HasDimension, FirstOf, NoneOf}
 use Rattle.real_form.specs.Parts.{Parts, parts, lifted, orbit}

@@ -1,8 +1,7 @@
 -- The real form of an irrep, by that of what the program holds.
-use Rattle.std.proofs.Common.{◌≡◌, refl, sym, ap, ◌∙◌, subst, inl, inr, ℕ, ◌≤◌, ◌⊎◌, List, length, map, Option, Some, None, get_or}
+use Rattle.std.proofs.Common.{◌≡◌, refl, sym, ap, ◌∙◌, subst, inl, inr, ℕ, ◌⊎◌, List, length}
 use Rattle.cyclo24.specs.K24.{exact24}
 use Rattle.cyclo24.specs.ExactK24.{Exact24, k24_laws}
-use Rattle.cyclo24.specs.ExactZ24.{ExactZ24}
 use Rattle.lin_alg.specs.Rows.{exact_rows}
 use Rattle.iso_text.specs.declared.sections.IrrepText.{IrrepText}
 use Rattle.super_group.specs.Quotient.{SupercellGroup, order_of, quotient_group, generators_of}
@@ -10,12 +9,12 @@ use Rattle.small_rep.specs.SmallRep.{Matrices}
 use Rattle.induce.specs.Induced.{dimension_of, indicator_sum, induced_of}
 use Rattle.induce.specs.InducedView.{InducedView, star_in}
 use Rattle.induce.specs.Kinds.{IsKind}
-use Rattle.induce.specs.Tables.{size_in, matrices_in, dimension_in, matrix_in}
+use Rattle.induce.specs.Tables.{matrices_in, dimension_in, matrix_in}
 use Rattle.induce.specs.declared.kinds.Kind.TheVariants.{Real}
 use Rattle.real_form.specs.Held.{generator_of}
 use Rattle.real_form.specs.Orbits.{NoneOf}
 use Rattle.real_form.specs.RealBasis.{IsRealBasis, FitsNot, IsWideSpans, IsWideForm}
-use Rattle.real_form.specs.RealForm.{quotient_of, basis_of, action_of, action_of-lawful}
+use Rattle.real_form.specs.RealForm.{basis_of, action_of, action_of-lawful}
 use Rattle.real_form.specs.declared.form.RealForm.{RealForm}
 use Rattle.real_form.specs.declared.errors.FormError.TheVariants as form_error
 use Rattle.lin_alg.specs.Action.{entry_of}

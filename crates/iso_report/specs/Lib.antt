@@ -24,6 +24,18 @@ pub mod Fractions
 pub mod IrrepReport
 -- the report of `check`
 pub mod Check
+-- the letters of the coordinates of a direction that are free
+pub mod Letters
+-- how the form of an order parameter direction is written
+pub mod FormText
+-- what the parts of the code that writes forms take and give
+pub mod FormParts
+-- how a stabiliser is written
+pub mod StabiliserText
+-- what the parts of the code that writes stabilisers take and give
+pub mod StabiliserParts
+-- the report of `list`
+pub mod ListReport
 -- what the program holds of a file
 pub mod Held
 pub mod HeldFiles
@@ -33,8 +45,6 @@ pub mod Choice
 pub mod RealForms
 -- the fixed subspaces of a real form, and the directions of its classes
 pub mod Closing
--- the report of `list`
-pub mod ListReport
 -- what pages of the report of `list` obey
 pub mod PageLaws
 -- what `list` finds, step by step

@@ -7,14 +7,14 @@ use iso_text::{Frac, NoMemory, Text};
 use std::alloc::Global;
 
 // A minus sign where the number is negative.
-fn minus(num: i32) -> &'static [u8]
+pub fn minus(num: i32) -> &'static [u8]
     ensures { result.now ≡ minus_text num }
 {
     if num < 0 { b"-" } else { b"" }
 }
 
 // `/q`, nothing where q is 1.
-fn over(alloc: Global, den: u8) -> Result<Text, NoMemory>
+pub fn over(alloc: Global, den: u8) -> Result<Text, NoMemory>
     ensures { IfOk result (λ text. text ≡ (if den == 1 then [] else codes "/" ++ decimal den)) }
 {
     let mut text = Text::new(alloc);

@@ -1,4 +1,4 @@
-use Rattle.std.proofs.Common.{ap, Err, subst}
+use Rattle.std.proofs.Common.{ap, Err}
 use Rattle.iso_report.proofs.ClosingLemmas.{wide-stabilisers, wide-images, are-directions}
 use Rattle.iso_report.proofs.closing.directions.Goals as goal
 

@@ -1,4 +1,4 @@
-use Rattle.std.proofs.Common.{sym, subst, IfOk}
+use Rattle.std.proofs.Common.{subst, IfOk}
 use Rattle.iso_report.specs.Choice.{chosen_of}
 use Rattle.iso_report.specs.Contexts.{Formed}
 use Rattle.iso_report.specs.Found.{Finds}

@@ -1,8 +1,8 @@
-use Rattle.std.proofs.Common.{◌≡◌, ◌<◌, sym, subst, length, get_or, arith}
+use Rattle.std.proofs.Common.{sym, subst, get_or}
 use Rattle.induce.specs.InducedView.{InducedView}
 use Rattle.iso_text.specs.declared.sections.IrrepText.{IrrepText}
 use Rattle.iso_report.specs.Held.{IsInducedHeld}
-use Rattle.iso_report.proofs.EachLemmas.{each-length, each-at}
+use Rattle.iso_report.proofs.EachLemmas.{each-at}
 use Rattle.iso_report.proofs.ListingLemmas.{answer-at}
 use Rattle.iso_report.proofs.listing.form_among.Goals as goal
 
