@@ -15,6 +15,7 @@ pub mod GeneratorLemmas
 pub mod HeldLemmas
 pub mod InducedUniqueLemmas
 pub mod IrrepUniqueLemmas
+pub mod KeptLemmas
 pub mod LetterLemmas
 pub mod ListReportLemmas
 pub mod ListUniqueLemmas

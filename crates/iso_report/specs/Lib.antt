@@ -32,6 +32,8 @@ pub mod FormText
 pub mod FormParts
 -- how a stabiliser is written
 pub mod StabiliserText
+-- what the lines of a stabiliser obey
+pub mod StabiliserTextLaws
 -- what the parts of the code that writes stabilisers take and give
 pub mod StabiliserParts
 -- the report of `list`

@@ -1,6 +1,7 @@
 // Laws over the definitions, as contracts of functions that do nothing.
 ghost use Rattle.iso_report.specs.OutcomeLaws.{HasOneOutcome};
 ghost use Rattle.iso_report.specs.PageLaws.{PagesJoin};
+ghost use Rattle.iso_report.specs.StabiliserTextLaws.{KeptRise};
 
 use crate::job::Job;
 use class_list::{law_of_listings, law_of_pages};
@@ -26,3 +27,8 @@ pub fn law_of_report_pages()
 {
     law_of_pages::<K24>();
 }
+
+/// The translations of the lines `kept` of a direction rise.
+pub fn law_of_kept_lines()
+    ensures { KeptRise }
+{}

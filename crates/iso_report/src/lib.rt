@@ -36,6 +36,6 @@ mod step;
 mod sums;
 
 pub use job::Job;
-pub use laws::{law_of_outcomes, law_of_report_pages};
+pub use laws::{law_of_kept_lines, law_of_outcomes, law_of_report_pages};
 pub use outcome::run;
 pub use refusal::{Refusal, RunError, refusal_line};
