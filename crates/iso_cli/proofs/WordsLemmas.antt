@@ -4,7 +4,9 @@ use Rattle.std.specs.Prelude.{option_and_then}
 use Rattle.iso_report.specs.Endings.{Change, change}
 use Rattle.iso_report.specs.Jobs.{is_built}
 use Rattle.iso_report.specs.declared.job.Job.{Job}
-use Rattle.iso_cli.specs.Answers.{Answers, Says, SaysUsage, memory_line}
+use Rattle.iso_report.specs.Report.{line_of}
+use Rattle.iso_report.specs.declared.refusal.Refusal.{Refusal}
+use Rattle.iso_cli.specs.Answers.{Answers, Says, SaysRefusal, SaysUsage, memory_line}
 use Rattle.iso_cli.specs.Built.{built_job_of, if_built}
 use Rattle.iso_cli.specs.JobOf.{job_of}
 use Rattle.iso_cli.specs.Options.{Text}
@@ -19,6 +21,10 @@ built_some words answer job meant is built = ap (option_and_then if_built) (sym 
 -- want of memory in place of usage, and in place of any job's answer
 pub usage_memory : (s : Status) (err : Change) → s ≡ status.NoMemory → Says memory_line err → SaysUsage s err
 usage_memory s err e said = subst (λ t. SaysUsage t err) (sym e) said
+
+-- a refusal whose line was said
+pub says_refused : (r : Refusal) (s : Status) (err : Change) → s ≡ status.Refused → SaysRefusal r s err → Says (line_of r) err
+says_refused r s err e said = subst (λ t. SaysRefusal r t err) e said
 
 pub any_memory : (named : Option Job) (left written : Option (List ℕ)) (faults : ℕ) (s : Status) (err : Change) → s ≡ status.NoMemory → Says memory_line err
     → IfSome named (λ job. IfSome left (λ bytes. Answers job bytes s (change written written faults faults) err))

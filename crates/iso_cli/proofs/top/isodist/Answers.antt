@@ -1,9 +1,9 @@
-use Rattle.std.proofs.Common.{sym, ◌∙◌}
+use Rattle.std.proofs.Common.{sym, ◌∙◌, inr}
 use Rattle.iso_report.specs.declared.refusal.Refusal.TheVariants as refusal
 use Rattle.iso_cli.specs.JobOf.{texts_of}
 use Rattle.iso_cli.proofs.Completeness.{complete_answer, sound_answer}
 use Rattle.iso_cli.proofs.Lines.{grew_nothing, says_no_memory, says_same}
-use Rattle.iso_cli.proofs.WordsLemmas.{any_memory, built_some, usage_memory}
+use Rattle.iso_cli.proofs.WordsLemmas.{any_memory, built_some, says_refused, usage_memory}
 use Rattle.iso_cli.proofs.top.isodist.Goals as goal
 
 pub returns-in-Ok-Some-clause-complete : goal.returns-in-Ok-Some-clause-complete
@@ -19,6 +19,9 @@ returns-in-Ok-Some-clause-sound g c =
 pub returns-in-Ok-Some-2-clause-not_built : goal.returns-in-Ok-Some-2-clause-not_built
 returns-in-Ok-Some-2-clause-not_built g c =
     λ _. (grew_nothing (g.O.Sink.written c.args.out.now) (g.O.Sink.faults c.args.out.now) (g.O.Sink.faults c.args.out.now), c.refuse.ensures)
+
+pub returns-in-Ok-Some-2-clause-too_long : goal.returns-in-Ok-Some-2-clause-too_long
+returns-in-Ok-Some-2-clause-too_long g c = λ refused. inr (refusal.NotBuilt, says_refused refusal.NotBuilt c.refuse.result _ refused c.refuse.ensures)
 
 pub returns-in-Err-clause-usage : goal.returns-in-Err-clause-usage
 returns-in-Err-clause-usage g c =
