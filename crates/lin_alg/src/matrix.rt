@@ -66,6 +66,7 @@ impl<F: Field> Matrix<F> {
     }
 
     /// The entry in row i and column j.
+    #[inline(always)]
     pub fn get(&self, i: usize, j: usize) -> F
         requires row { i < self.now.rows }
         requires column { j < self.now.cols }
@@ -149,6 +150,8 @@ fn product_entry<F: Field>(a: &Matrix<F>, b: &Matrix<F>, i: usize, j: usize) -> 
 
 /// The sum and the product x y, one step of a row times a column. A product with a factor 0 isn't
 /// formed, and a product alone isn't added.
+// Called in inner loops on numbers of up to 144 bytes, most of them 0: inlined, it copies none of these.
+#[inline(always)]
 pub fn add_product<F: Field>(sum: F, x: F, y: F) -> Result<F, Wide>
     ensures exact { IfOk result (λ r. F.value r ≡ F.field.laws.plus (F.value sum) (F.field.laws.times (F.value x) (F.value y))) }
     ensures wide { OnErr result (IsWideTerm F.field (F.value sum) (F.value x) (F.value y)) }
