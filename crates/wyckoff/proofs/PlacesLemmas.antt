@@ -1,5 +1,5 @@
 -- The places of an orbit, from those under the listed operations and the translations.
-use Rattle.std.proofs.Common.{◌≡◌, refl, sym, ap, ◌∙◌, subst, ℕ, zero, suc, ◌<◌, ◌≤◌, ◌+◌, ◌*◌, ◌/◌, ◌%◌, ℤ, pos, ◌+ℤ◌, ◌≤ℤ◌, ◌<ℤ◌, List, [], length, get_or, arith}
+use Rattle.std.proofs.Common.{◌≡◌, sym, ap, ◌∙◌, subst, ℕ, ◌<◌, ◌≤◌, ◌+◌, ◌*◌, ◌/◌, ◌%◌, ℤ, pos, ◌≤ℤ◌, ◌<ℤ◌, List, [], length, get_or, arith}
 use Rattle.std.proofs.lemmas.Int.{ints}
 use Rattle.std.proofs.lemmas.List.{get_or_default}
 use Rattle.std.proofs.lemmas.List.Elements.{All-weaker, Contains-get_or}
@@ -16,11 +16,11 @@ use Rattle.super_group.specs.Supercell.{multiplier}
 use Rattle.super_group.specs.Quotient.{SupercellGroup, IsQuotient, order_of}
 use Rattle.super_group.specs.QuotientLaws.{row_below, places-below, number-below}
 use Rattle.super_group.specs.ElementLaws.{number-operation}
-use Rattle.wyckoff.specs.Places.{in_units, moved, reduced_place, place_at, image_in, IsInSupercell, IsBelowLength}
+use Rattle.wyckoff.specs.Places.{in_units, moved, reduced_place, place_at, image_in, IsInSupercell}
 use Rattle.wyckoff.specs.PlaceLaws.{image-inside, image-turned, image-shifted, image-factors}
 use Rattle.wyckoff.specs.Orbit.{ArePlacesOf}
 use Rattle.wyckoff.specs.OrbitLaws.{places-inside, places-closed}
-use Rattle.wyckoff.specs.OrbitParts.{turned_at, shifted_at, IsTurned, IsShifted, IsFilled, IsRowAdded, IsRising, AreShaped, AreDistinct, AreNear, AreClosedPlaces}
+use Rattle.wyckoff.specs.OrbitParts.{turned_at, shifted_at, IsTurned, IsShifted, IsFilled, IsRowAdded, AreShaped, AreDistinct, AreNear, AreClosedPlaces}
 use Rattle.wyckoff.proofs.TableLemmas.{filled-at}
 
 -- a place that is listed, by its number
@@ -98,8 +98,8 @@ module _ (s : SupercellGroup) (h : IsQuotient s) where
     distinct-near =
         near-more distinct
         (λ i e l.
-            let k = distinct_is i l in
-            subst (IsShiftWithin 144000000) (sym k.2 ∙ get_or_default distinct i [] e l) (turned_near k.0 k.1))
+        let k = distinct_is i l in
+        subst (IsShiftWithin 144000000) (sym k.2 ∙ get_or_default distinct i [] e l) (turned_near k.0 k.1))
 
     -- the image under element r T + t
     image_of_both : (r t : ℕ) → r < length s.parent.ops → t < length s.translations → image_in s (r * length s.translations + t) x ≡ shifted_at s t (turned_at s r x)

@@ -1,5 +1,5 @@
 -- A search in a rising list of places.
-use Rattle.std.proofs.Common.{◌≡◌, sym, ap, ◌∙◌, ℕ, ◌<◌, ◌+◌, inl, inr, ℤ, List, [], length, get_or, arith}
+use Rattle.std.proofs.Common.{◌≡◌, ap, ◌∙◌, ℕ, ◌+◌, inl, inr, ℤ, List, [], get_or, arith}
 use Rattle.std.proofs.lemmas.Bool.{cases_order}
 use Rattle.std.proofs.lemmas.Cmp.{lists_total, int_cmp_total, tied_itself}
 use Rattle.std.proofs.lemmas.List.{get_or_default}

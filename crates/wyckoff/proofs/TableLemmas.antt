@@ -33,8 +33,8 @@ module _ {A : Type 0} where
         elim (cases_lt c n) [
           | inl m ↦ subst (P c) (sym (get_or_append_left a.row (x ∷ []) d c (subst (λ k. c < k) (sym a.count) m))) (a.each c m)
           | inr m ↦
-            let f : c ≡ n = last_one c n l m in
-            subst (P c) (sym (get_or_push a.row x d c (a.count ∙ sym f))) (subst (λ k. P k x) (sym f) p)
+              let f : c ≡ n = last_one c n l m in
+              subst (P c) (sym (get_or_push a.row x d c (a.count ∙ sym f))) (subst (λ k. P k x) (sym f) p)
         ];
   }
 
@@ -48,15 +48,15 @@ module _ {A : Type 0} where
     each = λ r c l m.
         elim (cases_lt r rows) [
           | inl k ↦
-            subst (P r c)
-            (sym (get_or_append_left list a.row d (r * columns + c) (subst (λ n. r * columns + c < n) (sym f.size) (row_below rows columns r c k m)))
-            ∙ ap (λ (xs : List A). get_or xs (r * columns + c) d) (sym a.is))
-            (f.each r c k m)
+              subst (P r c)
+              (sym (get_or_append_left list a.row d (r * columns + c) (subst (λ n. r * columns + c < n) (sym f.size) (row_below rows columns r c k m)))
+              ∙ ap (λ (xs : List A). get_or xs (r * columns + c) d) (sym a.is))
+              (f.each r c k m)
           | inr k ↦
-            let e : r ≡ rows = last_one r rows l k in
-            subst (P r c)
-            (sym (get_or-append-add list a.row c d) ∙ (λ i. get_or (sym a.is i) (f.size i + c) d) ∙ ap (λ n. get_or list' (n * columns + c) d) (sym e))
-            (subst (λ n. P n c (get_or a.row c d)) (sym e) (a.each c m))
+              let e : r ≡ rows = last_one r rows l k in
+              subst (P r c)
+              (sym (get_or-append-add list a.row c d) ∙ (λ i. get_or (sym a.is i) (f.size i + c) d) ∙ ap (λ n. get_or list' (n * columns + c) d) (sym e))
+              (subst (λ n. P n c (get_or a.row c d)) (sym e) (a.each c m))
         ];
   }
 

@@ -10,13 +10,12 @@
 -- images-unique: an orbit has one image of each atom
 -- orbits-few: the orbits of accepted lines have at most 384 atoms
 -- site-place, site-subgroup: the elements that leave an atom in its place
-use Rattle.std.proofs.Common.{◌≡◌, refl, sym, ap, ◌∙◌, subst, ℕ, zero, suc, ◌<◌, ◌≤◌, ◌+◌, ◌*◌, inl, inr, ℤ, List, [], ◌∷◌, Some, slice_get, length, get_or, arith}
+use Rattle.std.proofs.Common.{◌≡◌, refl, sym, ap, ◌∙◌, subst, ℕ, ◌<◌, ◌≤◌, ◌+◌, ◌*◌, inl, inr, ℤ, List, [], ◌∷◌, Some, slice_get, length, get_or, arith}
 use Rattle.std.proofs.lemmas.Bool.{cases_lt}
 use Rattle.std.proofs.lemmas.Option.{slice_get-get_or, slice_get_within}
 use Rattle.std.specs.Prelude.{◌↔◌, Contains}
 use Rattle.std.specs.Cmp.Lexicographic.{slice_cmp}
 use Rattle.std.specs.Ordering.{int_cmp}
-use Rattle.std.specs.declared.cmp.Ordering.TheVariants.{Less}
 use Rattle.iso_text.specs.declared.sections.AtomText.{AtomText}
 use Rattle.algebra.specs.NumberedGroup.{Group, IsGroup}
 use Rattle.algebra.specs.PigeonholeLaws.{pigeonhole}
@@ -151,9 +150,9 @@ module _ (s : SupercellGroup) (h : IsQuotient s) where
           group.product b.0 r,
           held (group.product b.0 r) c,
           apart (image_of o (group.product b.0 r) 0) i (below (group.product b.0 r) 0 c some) l
-          (image-at (group.product b.0 r) 0 c some ∙ image-product s h b.0 r b.1 m (place_at o.places 0) ∙ ap (λ v. image_in s b.0 (image_in s r v)) p.2
-          ∙ ap (image_in s b.0) (sym (image-product s h r p.0 m p.1 x) ∙ ap (λ q. image_in s q x) (lawful.inverse-product p.0 p.1) ∙ image-identity s h x)
-          ∙ image-reduced s h b.0 b.1 x ∙ sym b.2),
+              (image-at (group.product b.0 r) 0 c some ∙ image-product s h b.0 r b.1 m (place_at o.places 0) ∙ ap (λ v. image_in s b.0 (image_in s r v)) p.2
+              ∙ ap (image_in s b.0) (sym (image-product s h r p.0 m p.1 x) ∙ ap (λ q. image_in s q x) (lawful.inverse-product p.0 p.1) ∙ image-identity s h x)
+              ∙ image-reduced s h b.0 b.1 x ∙ sym b.2),
         )
 
     among : (t : ℕ) → t < length s.translations → t < order_of s

@@ -12,7 +12,7 @@
 -- image-inside, image-reduced, image-identity, image-product: images are places in the supercell, and multiply
 -- image-turned, image-shifted, image-factors: listed operations and translations
 -- orbit-image, image-orbit: members of the parent group take places to places of the orbit
-use Rattle.std.proofs.Common.{◌≡◌, refl, sym, ap, ◌∙◌, subst, ℕ, zero, suc, ◌<◌, ◌+◌, ◌*◌, ◌/◌, ◌%◌, ℤ, pos, ◌+ℤ◌, ◌*ℤ◌, ◌≤ℤ◌, ◌<ℤ◌, List, [], ◌∷◌, length, arith}
+use Rattle.std.proofs.Common.{◌≡◌, refl, sym, ap, ◌∙◌, subst, ℕ, zero, suc, ◌<◌, ◌*◌, ◌/◌, ◌%◌, ℤ, pos, ◌+ℤ◌, ◌*ℤ◌, ◌≤ℤ◌, ◌<ℤ◌, List, [], ◌∷◌, length, arith}
 use Rattle.std.proofs.lemmas.Int.{ints}
 use Rattle.std.proofs.Math.IntN.{pos-*ℤ-pos}
 use Rattle.std.specs.Int.{int_rem_euclid}
@@ -20,19 +20,18 @@ use Rattle.algebra.specs.Solve.{V, exps, at}
 use Rattle.algebra.specs.SolveLaws.{solve}
 use Rattle.algebra.specs.Whole.{whole}
 use Rattle.algebra.specs.WholeLaws.{whole_ring}
-use Rattle.space_ops.specs.Matrix.{Matrix, Vector, image_under, vector_sum, minus_vector, zero_vector, unit_matrix}
+use Rattle.space_ops.specs.Matrix.{Matrix, Vector, image_under, vector_sum, zero_vector, unit_matrix}
 use Rattle.space_ops.specs.MatrixLaws.{same_vector, image_under-product, image_under-difference}
 use Rattle.space_ops.specs.Seitz.{Seitz, seitz_product, seitz_identity}
-use Rattle.space_ops.specs.Words.{op_at, vector_difference, IsLatticeVector}
-use Rattle.space_ops.specs.LatticeLaws.{difference_step, minus_difference}
-use Rattle.space_ops.specs.WordLaws.{translation, word-lattice, word-product, word-identity}
+use Rattle.space_ops.specs.Words.{op_at, vector_difference}
+use Rattle.space_ops.specs.WordLaws.{translation, word-lattice, word-identity}
 use Rattle.super_group.specs.Supercell.{multiplier, IsCell, IsSameElement, IsInside, reduced}
-use Rattle.super_group.specs.SupercellLaws.{cell_differ-sym, cell_differ-trans, cell-lattice, member-cell, same-sym, same-trans, reduced-cell, reduced-inside, reduced-same, inside-unique}
+use Rattle.super_group.specs.SupercellLaws.{cell_differ-sym, cell_differ-trans, cell-lattice, member-cell, reduced-cell, reduced-inside, reduced-same, inside-unique}
 use Rattle.super_group.specs.Quotient.{SupercellGroup, IsQuotient, IsMember, translation_at, order_of, element_of, number_of, quotient_group}
 use Rattle.super_group.specs.QuotientLaws.{element-member, element-number, number-below, product-member, number-identity, places-below}
 use Rattle.super_group.specs.Elements.{translation_element}
 use Rattle.super_group.specs.ElementLaws.{element-same, number-translation, number-operation}
-use Rattle.wyckoff.specs.Places.{in_units, moved, length_along, reduced_place, IsInSupercell, image_in, IsOnOrbit}
+use Rattle.wyckoff.specs.Places.{in_units, moved, reduced_place, IsInSupercell, image_in, IsOnOrbit}
 use Rattle.wyckoff.specs.OrbitParts.{turned_at, shifted_at}
 
 -- a twelfth of a millionth of a cell edge is a unit

@@ -33,11 +33,7 @@ fn make_distinct(places: &mut Vec<[i64; 3]>)
 }
 
 // Where the listed operations take a place, in their order.
-fn turned_places(
-    alloc: Global,
-    quotient: &Quotient,
-    x: [i64; 3],
-) -> Result<Vec<[i64; 3]>, NoMemory>
+fn turned_places(alloc: Global, quotient: &Quotient, x: [i64; 3]) -> Result<Vec<[i64; 3]>, NoMemory>
     requires quotient { IsQuotient quotient.now }
     requires place { IsShiftWithin 1200000000 x }
     ensures { IfOk result (λ places. IsRowAdded (length quotient.now.parent.ops) (IsTurned quotient.now (vector_of x)) [] [] places.items) }

@@ -1,4 +1,4 @@
-use Rattle.std.proofs.Common.{◌≡◌, ◌<◌, ◌++◌, ◌∷◌, [], refl, sym, ap, subst, ℕ, ℤ, List, length, rules}
+use Rattle.std.proofs.Common.{◌≡◌, ◌++◌, ◌∷◌, [], refl, subst, ℕ, length, rules}
 use Rattle.space_ops.specs.Op.{vector_of}
 use Rattle.wyckoff.specs.OrbitParts.{IsShifted, IsRowAdded}
 use Rattle.wyckoff.proofs.PlacesLemmas.{shifted_is, translation-within, positive-at, few-at}

@@ -1,8 +1,6 @@
-use Rattle.std.proofs.Common.{◌≡◌, ◌<◌, [], sym, ◌∙◌, subst, ℕ, ℤ, List, length, get_or, rules}
-use Rattle.std.proofs.lemmas.List.{get_or_default}
-use Rattle.space_ops.specs.Op.{vector_of}
+use Rattle.std.proofs.Common.{◌≡◌, [], sym, subst, ℕ, ℤ, List, length, rules}
 use Rattle.wyckoff.specs.Places.{place_at}
-use Rattle.wyckoff.specs.OrbitParts.{IsShifted, IsFilled, IsRowAdded}
+use Rattle.wyckoff.specs.OrbitParts.{IsShifted, IsFilled}
 use Rattle.wyckoff.proofs.PlacesLemmas.{near-at}
 use Rattle.wyckoff.proofs.TableLemmas.{filled-none, filled-more}
 use Rattle.wyckoff.proofs.places.shifted_places.Goals as goal

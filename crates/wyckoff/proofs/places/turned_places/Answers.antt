@@ -1,4 +1,4 @@
-use Rattle.std.proofs.Common.{◌≡◌, ◌<◌, ◌++◌, ◌∷◌, [], sym, subst, ℕ, ℤ, List, length, arith, rules}
+use Rattle.std.proofs.Common.{◌≡◌, ◌++◌, ◌∷◌, [], sym, subst, ℕ, ℤ, List, length, arith, rules}
 use Rattle.space_ops.specs.Op.{vector_of}
 use Rattle.space_ops.specs.WithinLaws.{shift_more}
 use Rattle.wyckoff.specs.OrbitParts.{IsTurned, IsRowAdded}

@@ -1,7 +1,6 @@
-use Rattle.std.proofs.Common.{◌≡◌, ◌<◌, ◌++◌, ◌∷◌, [], refl, sym, ap, ◌∙◌, subst, ℕ, ℤ, List, length, get_or, arith, rules}
-use Rattle.std.proofs.lemmas.List.{get_or_default}
+use Rattle.std.proofs.Common.{◌≡◌, ◌<◌, ◌++◌, ◌∷◌, [], refl, sym, ◌∙◌, subst, ℕ, ℤ, List, length, rules}
 use Rattle.std.specs.List.{Contains}
-use Rattle.space_ops.specs.Op.{vector_of, shift_of}
+use Rattle.space_ops.specs.Op.{shift_of}
 use Rattle.wyckoff.specs.Places.{place_at}
 use Rattle.wyckoff.specs.OrbitParts.{shifted_at, IsRowAdded, IsNumberOf}
 use Rattle.wyckoff.proofs.PlacesLemmas.{shifted_is, near-at, translation-within, positive-at, few-at}

@@ -1,7 +1,6 @@
-use Rattle.std.proofs.Common.{◌≡◌, ◌<◌, ◌++◌, ◌∷◌, [], refl, sym, ap, ◌∙◌, subst, ℕ, ℤ, List, length, get_or, arith, rules}
-use Rattle.std.proofs.lemmas.List.{get_or_default}
+use Rattle.std.proofs.Common.{◌≡◌, ◌++◌, ◌∷◌, [], sym, ◌∙◌, subst, ℕ, length, arith, rules}
 use Rattle.std.specs.List.{Contains}
-use Rattle.space_ops.specs.Op.{vector_of, shift_of}
+use Rattle.space_ops.specs.Op.{shift_of}
 use Rattle.space_ops.specs.WithinLaws.{shift_more}
 use Rattle.wyckoff.specs.Places.{place_at}
 use Rattle.wyckoff.specs.OrbitParts.{turned_at, IsRowAdded, IsNumberOf}
