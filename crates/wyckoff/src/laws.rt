@@ -1,5 +1,5 @@
 // Laws over the definitions, as contracts of functions that do nothing.
-ghost use Rattle.std.specs.Prelude.{◌≡◌, ℕ, ℤ, ◌<◌, ◌≤◌, ◌↔◌, List, Some, Contains, length, slice_get};
+ghost use Rattle.std.specs.Prelude.{◌≡◌, ℕ, ℤ, ◌<◌, ◌≤◌, ◌↔◌, List, Some, length, slice_get};
 ghost use Rattle.iso_text.specs.declared.sections.AtomText.{AtomText};
 ghost use Rattle.algebra.specs.Subgroup.{IsSubgroup};
 ghost use Rattle.space_ops.specs.Matrix.{Vector};

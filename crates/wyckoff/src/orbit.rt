@@ -1,5 +1,5 @@
 // The orbit of an atom.
-ghost use Rattle.std.specs.Prelude.{◌≡◌, ℕ, ◌<◌, ◌≤◌, ◌+◌, ◌*◌, ◌↔◌, IsTrue, IfOk, OnOk, Contains, length, slice_index_or, []};
+ghost use Rattle.std.specs.Prelude.{◌≡◌, ◌<◌, ◌≤◌, ◌+◌, ◌*◌, ◌↔◌, IsTrue, IfOk, OnOk, Contains, length, slice_index_or, []};
 ghost use Rattle.algebra.specs.RisingLists.{IsRisingListOf};
 ghost use Rattle.space_ops.specs.Op.{vector_of, IsShiftWithin};
 ghost use Rattle.super_group.specs.Quotient.{IsQuotient};

@@ -1,10 +1,9 @@
 // The orbits of the atoms of a file.
-ghost use Rattle.std.specs.Prelude.{◌≡◌, ℕ, ◌<◌, ◌≤◌, ◌+◌, length, slice_get, slice_index_or, Some, IfOk, IfErr, OnOk, MatchOption, Contains};
+ghost use Rattle.std.specs.Prelude.{◌≡◌, ◌<◌, ◌+◌, length, slice_get, Some, IfOk, IfErr, OnOk};
 ghost use Rattle.std.specs.List.{All};
-ghost use Rattle.space_ops.specs.Op.{vector_of};
 ghost use Rattle.super_group.specs.Quotient.{IsQuotient};
 ghost use Rattle.wyckoff.specs.AtomLines.{AreAccepted, IsNewOrbit, IsAtomCause};
-ghost use Rattle.wyckoff.specs.Orbit.{OrbitView, ArePlacesOf};
+ghost use Rattle.wyckoff.specs.Orbit.{OrbitView};
 ghost use Rattle.wyckoff.specs.OrbitParts.{IsRising, AreShaped, AreOrbitsBefore, IsFirstWith};
 ghost use Rattle.iso_text.specs.Ranges.{IsSite};
 ghost use Rattle.iso_text.specs.declared.sections.AtomText.{AtomText};

@@ -1,5 +1,5 @@
 // The places of an orbit.
-ghost use Rattle.std.specs.Prelude.{◌≡◌, ℕ, ◌<◌, ◌≤◌, [], IfOk, OnOk, length, slice_index_or};
+ghost use Rattle.std.specs.Prelude.{[], IfOk, OnOk, length};
 ghost use Rattle.space_ops.specs.Op.{vector_of, IsShiftWithin};
 ghost use Rattle.super_group.specs.Quotient.{IsQuotient};
 ghost use Rattle.wyckoff.specs.Places.{place_at};

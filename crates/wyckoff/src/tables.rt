@@ -1,6 +1,6 @@
 // Where the listed operations and the translations take the atoms of an orbit, as tables of numbers.
-ghost use Rattle.std.specs.Prelude.{◌≡◌, ℕ, ◌<◌, ◌≤◌, ◌*◌, IfOk, OnOk, Contains, length};
-ghost use Rattle.space_ops.specs.Op.{IsShiftWithin, shift_of};
+ghost use Rattle.std.specs.Prelude.{◌<◌, ◌≤◌, IfOk, OnOk, Contains, length};
+ghost use Rattle.space_ops.specs.Op.{shift_of};
 ghost use Rattle.super_group.specs.Quotient.{IsQuotient};
 ghost use Rattle.wyckoff.specs.Places.{place_at};
 ghost use Rattle.wyckoff.specs.OrbitParts.{turned_at, shifted_at, IsFilled, IsRowAdded, IsRising, AreShaped, IsNumberOf, AreNear, AreClosedPlaces};
