@@ -136,6 +136,13 @@ impl Orbit {
         self.places[i]
     }
 
+    /// The order of the group modulo the supercell.
+    pub fn order(&self) -> usize
+        ensures { result ≡ self.now.order }
+    {
+        self.rotations * self.translations
+    }
+
     /// The atom to which element q takes atom i.
     pub fn image(&self, q: usize, i: usize) -> usize
         requires element { q < self.now.order }
@@ -153,7 +160,7 @@ impl Orbit {
         ensures { IfOk result (λ stab. IsSiteOf self.now i stab) }
     {
         let mut members = Vec::new(alloc);
-        for q in 0..self.rotations * self.translations {
+        for q in 0..self.order() {
             match self.add_member(q, i, &mut members) {
                 Ok(()) => {}
                 Err(_) => return Err(NoMemory),
