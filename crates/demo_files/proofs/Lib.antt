@@ -1,0 +1,4 @@
+pub mod CubicMatrices
+pub mod DemoLemmas
+pub mod DemoTexts
+pub mod KeepingLemmas

@@ -1,0 +1,4 @@
+-- The modules, each behind those that it stands on.
+
+-- the demo file of a number
+pub mod Demo
