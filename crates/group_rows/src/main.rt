@@ -13,11 +13,15 @@
 //! - `order | SYMBOL | D; D`: the order of the quotient by that supercell
 //! - `quotient | SYMBOL | D; D`: also the number of its translations, and its generators
 //! - `translations | SYMBOL | D; D`: the translations inside the supercell
+//! - `demo | NUMBER`: the lines and bytes of a demo file, and its bytes as digits to the base 31,
+//!   modulo 2^32
+//! - `file | NUMBER`: a demo file as it is
 //!
 //! In a row `\n`, `\r`, `\t` and `\v` stand for the bytes of which they are the names in C.
 #![tactic(auto)]
 
 mod cells;
+mod demos;
 mod groups;
 mod row;
 mod stars;

@@ -1,5 +1,6 @@
 // A row, and the text that is printed of it.
 use crate::cells::{CellAsk, push_cell};
+use crate::demos::{DemoAsk, push_demo};
 use crate::groups::{push_group, push_lattice};
 use crate::stars::{StarAsk, push_star, push_vector};
 use crate::symbols::{push_fronts, push_symbol};
@@ -31,6 +32,8 @@ fn push_answer(alloc: Global, text: &mut Text, parts: &[&str]) -> Result<(), NoM
         ["order", symbol, d] => push_cell(alloc, text, symbol, d, CellAsk::Order),
         ["quotient", symbol, d] => push_cell(alloc, text, symbol, d, CellAsk::Quotient),
         ["translations", symbol, d] => push_cell(alloc, text, symbol, d, CellAsk::Translations),
+        ["demo", number] => push_demo(alloc, text, number, DemoAsk::Sizes),
+        ["file", number] => push_demo(alloc, text, number, DemoAsk::Whole),
         _ => text.push(b"  no row\n"),
     }
 }
