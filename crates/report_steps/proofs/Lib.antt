@@ -1,0 +1,14 @@
+pub mod CheckUniqueLemmas
+pub mod EachLemmas
+pub mod FactLemmas
+pub mod GeneratorLemmas
+pub mod HeldLemmas
+pub mod InducedUniqueLemmas
+pub mod IrrepUniqueLemmas
+pub mod ReadUniqueLemmas
+pub mod RepLemmas
+pub mod StageLemmas
+pub mod StarPairLemmas
+pub mod TranslationLemmas
+pub mod UniqueLemmas
+pub mod WaveLemmas
