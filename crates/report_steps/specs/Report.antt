@@ -46,6 +46,9 @@ refusal_text (refusal.VectorSize n given dimension) = line_words n (codes ": vec
 refusal_text (refusal.NoSuchIrrep wanted) = codes "no irrep" ++ wanted_words wanted
 refusal_text (refusal.NoRealBasis name) = irrep_words name (codes ": no real basis")
 refusal_text (refusal.TooManySubspaces name limit) = irrep_words name (codes ": more than ") ++ decimal limit ++ codes " fixed subspaces"
+refusal_text (refusal.NoSuchDirection name number) = irrep_words name (codes ": no direction ") ++ decimal number
+refusal_text (refusal.SameSite earlier n) = codes "lines " ++ decimal earlier ++ codes " and " ++ decimal n ++ codes ": one orbit"
+refusal_text (refusal.TooManyAtoms n size) = line_words n (codes ": orbit of ") ++ decimal size ++ codes " coordinates is past 1152"
 refusal_text (refusal.Wide family) = codes "number past 126 bits in family " ++ decimal family
 refusal_text refusal.NotBuilt = codes "not built"
 

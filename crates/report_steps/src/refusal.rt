@@ -52,6 +52,13 @@ pub enum Refusal {
     NoRealBasis(Name),
     /// The irrep of this name has more fixed subspaces than this limit.
     TooManySubspaces(Name, u32),
+    /// The irrep of this name has no direction of this number.
+    NoSuchDirection(Name, u64),
+    /// The place of an atom line is on the orbit of an earlier line: the numbers of the earlier line, the
+    /// first such, and of the line.
+    SameSite(u32, u32),
+    /// The orbit of the atom line of this number has so many coordinates, which are past 1,152.
+    TooManyAtoms(u32, u32),
     /// A number of this family of numbers passes 126 bits.
     Wide(u8),
     /// The words or the file are beyond what is built so far.
@@ -184,6 +191,38 @@ fn subspaces_text(alloc: Global, name: &Name, limit: u32) -> Result<Text, NoMemo
     Ok(text)
 }
 
+// The text of a direction that an irrep doesn't have.
+fn direction_text(alloc: Global, name: &Name, number: u64) -> Result<Text, NoMemory>
+    ensures { IfOk result (λ text. text ≡ refusal_text (Refusal.NoSuchDirection name.now number)) }
+{
+    let mut text = irrep_text(alloc, name, b": no direction ")?;
+    text.push_number(number)?;
+    Ok(text)
+}
+
+// The text of two lines on one orbit.
+fn same_site_text(alloc: Global, earlier: u32, line: u32) -> Result<Text, NoMemory>
+    ensures { IfOk result (λ text. text ≡ refusal_text (Refusal.SameSite earlier line)) }
+{
+    let mut text = Text::new(alloc);
+    text.push(b"lines ")?;
+    text.push_number(u64::from(earlier))?;
+    text.push(b" and ")?;
+    text.push_number(u64::from(line))?;
+    text.push(b": one orbit")?;
+    Ok(text)
+}
+
+// The text of an orbit with too many coordinates.
+fn atoms_text(alloc: Global, line: u32, size: u32) -> Result<Text, NoMemory>
+    ensures { IfOk result (λ text. text ≡ refusal_text (Refusal.TooManyAtoms line size)) }
+{
+    let mut text = line_text(alloc, line, b": orbit of ")?;
+    text.push_number(u64::from(size))?;
+    text.push(b" coordinates is past 1152")?;
+    Ok(text)
+}
+
 // The text of a family of numbers that is wide.
 fn wide_text(alloc: Global, family: u8) -> Result<Text, NoMemory>
     ensures { IfOk result (λ text. text ≡ refusal_text (Refusal.Wide family)) }
@@ -217,6 +256,9 @@ fn text_of_refusal(alloc: Global, refusal: &Refusal) -> Result<Text, NoMemory>
         Refusal::NoSuchIrrep(wanted) => no_irrep_text(alloc, wanted),
         Refusal::NoRealBasis(name) => irrep_text(alloc, name, b": no real basis"),
         Refusal::TooManySubspaces(name, limit) => subspaces_text(alloc, name, *limit),
+        Refusal::NoSuchDirection(name, number) => direction_text(alloc, name, *number),
+        Refusal::SameSite(earlier, line) => same_site_text(alloc, *earlier, *line),
+        Refusal::TooManyAtoms(line, size) => atoms_text(alloc, *line, *size),
         Refusal::Wide(family) => wide_text(alloc, *family),
         Refusal::NotBuilt => plain_text(alloc, b"not built"),
     }
