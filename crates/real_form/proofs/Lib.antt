@@ -24,3 +24,4 @@ mod AssemblyLemmas
 mod FactorLemmas
 mod SparseLemmas
 mod RepeatLemmas
+mod PhaseLemmas

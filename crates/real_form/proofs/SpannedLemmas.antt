@@ -3,14 +3,14 @@ use Rattle.cyclo24.specs.FieldOn.{FieldOn}
 use Rattle.cyclo24.specs.ExactField.{ExactField, Value}
 use Rattle.lin_alg.specs.Spans.{row_vectors, less, IsInSpan, AreSame}
 use Rattle.lin_alg.specs.Reduced.{IsForm}
-use Rattle.lin_alg.specs.SpanLaws.{in_span-head}
+use Rattle.lin_alg.specs.SpanLaws.{funext, in_span-nought, in_span-past, in_span-head}
 use Rattle.lin_alg.specs.Rows.{exact_rows}
 use Rattle.lin_alg.specs.Insertion.{IsWideInsert}
 use Rattle.lin_alg.specs.Echelon.{EchelonView, IsEchelon, IsSpanned}
 use Rattle.lin_alg.specs.Solving.{plain_rows, IsWideIndependent}
 use Rattle.real_form.specs.Orbits.{IsFormOf, HasDimension}
 use Rattle.real_form.proofs.OrbitLaws.{passed, other-length, span-skip}
-use Rattle.real_form.specs.Spanned.{HoldsSpan}
+use Rattle.real_form.specs.Spanned.{HoldsSpan, HoldsPart}
 
 -- one more row on both sides
 same-more : {K : Type 0} (f : FieldOn K) (rs ss : List (ℕ → K)) (x : ℕ → K) → AreSame (IsInSpan f rs) (IsInSpan f ss) → AreSame (IsInSpan f (x ∷ rs)) (IsInSpan f (x ∷ ss))
@@ -80,6 +80,41 @@ module _ {A : Type 0} (f : ExactField) (value : A → Value f) (w : ℕ) (a : �
   held-skip k m form h l members =
       let both = span-skip f.laws a k m l members in
       record { width = h.width; whole = h.whole; shape = h.shape; span = λ v. (λ t. (both v).0 ((h.span v).0 t), λ t. (h.span v).1 ((both v).1 t)) }
+
+-- forms of vectors of the span of the first k rows
+module _ {A : Type 0} (f : ExactField) (value : A → Value f) (w : ℕ) (a : ℕ → ℕ → Value f) where
+  pub part-empty : (k : ℕ) (form : EchelonView A) → form.width ≡ w → form.whole ≡ true → form.rows ≡ [] → HoldsPart f.laws value w a k form
+  part-empty k form ew eh er = record {
+    width = ew;
+    whole = eh;
+    within = λ v h.
+        let none : IsInSpan f.laws [] v = subst (λ (rs : List (ℕ × List A)). IsInSpan f.laws (row_vectors (exact_rows f.laws value rs)) v) er h in
+        subst (λ (u : ℕ → Value f). IsInSpan f.laws (plain_rows a k) u) (sym (funext none)) (in_span-nought f.laws (plain_rows a k));
+  }
+
+  pub part-skip : (k : ℕ) (form : EchelonView A) → HoldsPart f.laws value w a k form → HoldsPart f.laws value w a (k + 1) form
+  part-skip k form h = record {
+    width = h.width;
+    whole = h.whole;
+    within = λ v t. subst (λ (n : ℕ). IsInSpan f.laws (plain_rows a n) v) (sym (add-one k)) (in_span-past f.laws (a k) (plain_rows a k) v (h.within v t));
+  }
+
+  pub part-next : (k : ℕ) (old new : EchelonView A) → HoldsPart f.laws value w a k old → new.width ≡ w → new.whole ≡ true →
+      AreSame (IsSpanned f.laws value new) (IsInSpan f.laws (a k ∷ row_vectors (exact_rows f.laws value old.rows))) → HoldsPart f.laws value w a (k + 1) new
+  part-next k old new h ew eh span = record {
+    width = ew;
+    whole = eh;
+    within = λ v t.
+        let one = (span v).0 t in
+        let all : IsInSpan f.laws (plain_rows a (suc k)) v = (one.0, h.within (less f.laws v one.0 (a k)) one.1) in
+        subst (λ (n : ℕ). IsInSpan f.laws (plain_rows a n) v) (sym (add-one k)) all;
+  }
+
+  pub part-member : (k : ℕ) (old new : EchelonView A) → HoldsPart f.laws value w a k old → new.rows ≡ old.rows →
+      AreSame (IsSpanned f.laws value new) (IsInSpan f.laws (a k ∷ row_vectors (exact_rows f.laws value old.rows))) → IsInSpan f.laws (plain_rows a k) (a k)
+  part-member k old new h same span =
+      let in_new : IsInSpan f.laws (row_vectors (exact_rows f.laws value new.rows)) (a k) = (span (a k)).1 (in_span-head f.laws (a k) (row_vectors (exact_rows f.laws value old.rows))) in
+      h.within (a k) (subst (λ (rs : List (ℕ × List A)). IsInSpan f.laws (row_vectors (exact_rows f.laws value rs)) (a k)) same in_new)
 
 -- a slice of a whole list that was written
 pub written-length : {A : Type 0} (items new : List A) (len m : ℕ) → length new ≡ length items → len ≡ length items → length items ≡ m → length (take len (new ++ drop (length new) items)) ≡ m

@@ -20,7 +20,7 @@ pub mod RealBasis
 pub mod Spanned
 -- rows as a real form holds them
 pub mod Vectors
--- vectors that are 0 but at two places, and translations that repeat earlier ones on them
+-- vectors that are 0 but at two places, and translations whose images of them are combinations of others
 pub mod Sparse
 -- the group that acts by kept matrices
 pub mod Actions

@@ -17,6 +17,7 @@ mod image;
 mod insertion;
 mod lifting;
 mod matrices;
+mod phases;
 mod places;
 mod product;
 mod real_basis;

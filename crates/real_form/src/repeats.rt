@@ -1,18 +1,25 @@
-// Translations whose images of a vector on two arms are images under earlier translations.
-ghost use Rattle.std.specs.Prelude.{◌≡◌, ◌<◌, ◌≤◌, ◌+◌, ◌*◌, ℕ, true, false, Some, IfOk, IfSome, length, slice_index, slice_index_or};
+// Translations whose images of a vector on two arms are combinations of those under earlier ones.
+ghost use Rattle.std.specs.Prelude.{◌≡◌, ◌<◌, ◌≤◌, ◌+◌, ◌*◌, ◌/◌, ◌%◌, ℕ, true, false, Some, IfOk, OnOk, IfSome, length, slice_index, slice_index_or};
+ghost use Rattle.cyclo24.specs.K24.{exact24};
 ghost use Rattle.cyclo24.specs.Z24.{exact_z24};
+ghost use Rattle.cyclo24.specs.ExactK24.{Exact24, k24_laws};
 ghost use Rattle.cyclo24.specs.ExactZ24.{z24_laws};
 ghost use Rattle.lin_alg.specs.Rows.{vector};
+ghost use Rattle.lin_alg.specs.Spans.{IsInSpan};
+ghost use Rattle.lin_alg.specs.Solving.{plain_rows};
 ghost use Rattle.induce.specs.Tables.{dimension_in, matrix_in, size_in};
 ghost use Rattle.induce.specs.InducedView.{IsInducedOf, star_in};
 ghost use Rattle.real_form.specs.Parts.{orbit};
 ghost use Rattle.real_form.specs.Complexes.{z24_parts};
-ghost use Rattle.real_form.specs.Sparse.{IsSparse, ArePhases, AreRepeats, AreAgain};
+ghost use Rattle.real_form.specs.Sparse.{IsSparse, ArePhases, pair_rows, AreRepeats, AreAgain};
+ghost use Rattle.real_form.specs.Spanned.{HoldsPart};
 
+use crate::phases::{PHASE_WIDTH, insert_phases};
 use crate::places::Places;
-use cyclo24::Z24;
+use cyclo24::{K24, Z24};
 use induce::Induced;
 use iso_text::NoMemory;
+use lin_alg::{Echelon, Grew, LinError, zeros};
 use std::alloc::Global;
 use super_group::Quotient;
 
@@ -50,7 +57,51 @@ fn is_repeated(phases: &[u8], count: usize, j: usize, k: usize, t: usize) -> boo
     false
 }
 
-// Which translations repeat an earlier one on the arms of a pair, pair by pair of all arms.
+// The same, or that the phases of t are a combination of those that were inserted into the form, where
+// they are inserted. The form is emptied before the first translation, and where a number is too wide.
+fn is_combined(
+    form: &mut Echelon<K24>,
+    row: &mut [K24],
+    phases: &[u8],
+    count: usize,
+    j: usize,
+    k: usize,
+    t: usize,
+) -> Result<bool, NoMemory>
+    requires first { j * count + count ≤ length phases.now }
+    requires second { k * count + count ≤ length phases.now }
+    requires translation { t < count }
+    requires below { (d : ℕ) → d < length phases.now → slice_index phases.now d < 24 }
+    requires room { length row.old ≡ 4 }
+    requires held { HoldsPart k24_laws exact24 4 (pair_rows phases.now count j k) t form.old }
+    ensures held { OnOk result (HoldsPart k24_laws exact24 4 (pair_rows phases.now count j k) (t + 1) form.new) }
+    ensures combined { IfOk result (λ b. (b ≡ true) → IsInSpan k24_laws (plain_rows (pair_rows phases.now count j k) t) (pair_rows phases.now count j k t)) }
+{
+    if is_repeated(phases, count, j, k, t) {
+        return Ok(true);
+    }
+    match insert_phases(form, row, phases[j * count + t], phases[k * count + t]) {
+        Ok(Grew::No) => Ok(true),
+        Ok(Grew::Yes) => Ok(false),
+        Err(LinError::Wide) => {
+            form.clear(PHASE_WIDTH);
+            Ok(false)
+        }
+        Err(LinError::NoMemory) => Err(NoMemory),
+    }
+}
+
+// Empties the form before the first translation of a pair.
+fn start_pair(form: &mut Echelon<K24>, t: usize)
+    ensures { (a : ℕ → ℕ → Exact24) → ((0 < t) → HoldsPart k24_laws exact24 4 a t form.old) → HoldsPart k24_laws exact24 4 a t form.new }
+{
+    if t == 0 {
+        form.clear(PHASE_WIDTH);
+    }
+}
+
+// Which translations' phases on the arms of a pair are a real combination of those of earlier ones, pair
+// by pair of all arms.
 pub(crate) fn repeats(
     alloc: Global,
     quotient: &Quotient,
@@ -64,10 +115,22 @@ pub(crate) fn repeats(
     let count = quotient.translations().len();
     let arms = induced.star().arms();
     let _size = induced.rep().size();
+    let mut form = Echelon::new(alloc, PHASE_WIDTH);
+    let mut row = zeros(alloc, PHASE_WIDTH)?;
     let mut repeats: Vec<bool> = Vec::new(alloc);
     for d in 0..arms * arms * count {
         let pair = d / count;
-        match repeats.push(is_repeated(&phases, count, pair / arms, pair % arms, d % count)) {
+        start_pair(&mut form, d % count);
+        let combined = is_combined(
+            &mut form,
+            &mut row,
+            &phases,
+            count,
+            pair / arms,
+            pair % arms,
+            d % count,
+        )?;
+        match repeats.push(combined) {
             Ok(()) => {}
             Err(_) => return Err(NoMemory),
         }
@@ -76,7 +139,7 @@ pub(crate) fn repeats(
 }
 
 // Where those of the arms stand to which rotation r moves the arms of the places: each image of w under
-// a translation that is marked there is that under an earlier one.
+// a translation that is marked there is a combination of those under earlier elements.
 pub(crate) fn repeats_from(
     quotient: &Quotient,
     induced: &Induced,
@@ -91,7 +154,7 @@ pub(crate) fn repeats_from(
     requires repeats { AreRepeats (length quotient.now.parent.ops) (length quotient.now.translations) (dimension_in induced.now.tables) (size_in induced.now.tables) (length (star_in induced.now).by) (matrix_in quotient.now induced.now.tables) repeats.now (length (star_in induced.now).by * length (star_in induced.now).by * length quotient.now.translations) }
     requires rotation { r < length quotient.now.parent.ops }
     ensures inside { IfSome result (λ k. k + length quotient.now.translations ≤ length repeats.now) }
-    ensures again { IfSome result (λ k. AreAgain (orbit z24_parts (dimension_in induced.now.tables) (matrix_in quotient.now induced.now.tables) (vector z24_laws exact_z24 w.now)) (r * length quotient.now.translations) (length quotient.now.translations) repeats.now k) }
+    ensures again { IfSome result (λ k. AreAgain k24_laws (orbit z24_parts (dimension_in induced.now.tables) (matrix_in quotient.now induced.now.tables) (vector z24_laws exact_z24 w.now)) (r * length quotient.now.translations) (length quotient.now.translations) repeats.now k) }
 {
     match places {
         Some(places) => Some(pair_from(quotient, induced, w, places, repeats, r)),
@@ -114,7 +177,7 @@ fn pair_from(
     requires repeats { AreRepeats (length quotient.now.parent.ops) (length quotient.now.translations) (dimension_in induced.now.tables) (size_in induced.now.tables) (length (star_in induced.now).by) (matrix_in quotient.now induced.now.tables) repeats.now (length (star_in induced.now).by * length (star_in induced.now).by * length quotient.now.translations) }
     requires rotation { r < length quotient.now.parent.ops }
     ensures inside { result + length quotient.now.translations ≤ length repeats.now }
-    ensures again { AreAgain (orbit z24_parts (dimension_in induced.now.tables) (matrix_in quotient.now induced.now.tables) (vector z24_laws exact_z24 w.now)) (r * length quotient.now.translations) (length quotient.now.translations) repeats.now result }
+    ensures again { AreAgain k24_laws (orbit z24_parts (dimension_in induced.now.tables) (matrix_in quotient.now induced.now.tables) (vector z24_laws exact_z24 w.now)) (r * length quotient.now.translations) (length quotient.now.translations) repeats.now result }
 {
     let _order = quotient.order();
     let count = quotient.translations().len();

@@ -60,7 +60,8 @@ fn insert_image(
     }
 }
 
-// The same for an element behind the first of a block. An image that is marked as one before isn't formed.
+// The same for an element behind the first of a block. An image that is marked as a combination of those
+// before it isn't formed.
 fn insert_other(
     form: &mut Echelon<K24>,
     row: &mut [K24],
@@ -79,7 +80,7 @@ fn insert_other(
     requires element { q < order_of quotient.now }
     requires behind { first ≤ q }
     requires inside { IfSome from (λ k. k + (q - first) < length repeats.now) }
-    requires again { IfSome from (λ k. slice_index_or repeats.now (k + (q - first)) false ≡ true → (b : ℕ) × (b < q) × (orbit z24_parts (dimension_in induced.now.tables) (matrix_in quotient.now induced.now.tables) (vector z24_laws exact_z24 w.now) q ≡ orbit z24_parts (dimension_in induced.now.tables) (matrix_in quotient.now induced.now.tables) (vector z24_laws exact_z24 w.now) b)) }
+    requires again { IfSome from (λ k. slice_index_or repeats.now (k + (q - first)) false ≡ true → IsInSpan k24_laws (plain_rows (orbit z24_parts (dimension_in induced.now.tables) (matrix_in quotient.now induced.now.tables) (vector z24_laws exact_z24 w.now)) q) (orbit z24_parts (dimension_in induced.now.tables) (matrix_in quotient.now induced.now.tables) (vector z24_laws exact_z24 w.now) q)) }
     requires room { length row.old ≡ (dimension_in induced.now.tables) + (dimension_in induced.now.tables) }
     requires held { HoldsSpan k24_laws exact24 ((dimension_in induced.now.tables) + (dimension_in induced.now.tables)) (orbit z24_parts (dimension_in induced.now.tables) (matrix_in quotient.now induced.now.tables) (vector z24_laws exact_z24 w.now)) q form.old }
     ensures held { OnOk result (HoldsSpan k24_laws exact24 ((dimension_in induced.now.tables) + (dimension_in induced.now.tables)) (orbit z24_parts (dimension_in induced.now.tables) (matrix_in quotient.now induced.now.tables) (vector z24_laws exact_z24 w.now)) (q + 1) form.new) }
@@ -109,7 +110,7 @@ fn insert_rest(
     requires length { length w.now ≡ (dimension_in induced.now.tables) }
     requires sparse { IfSome places (λ p. IsSparse z24_laws (dimension_in induced.now.tables) (vector z24_laws exact_z24 w.now) p.first p.last) }
     requires inside { IfSome from (λ k. k + (end - first) ≤ length repeats.now) }
-    requires again { IfSome from (λ k. AreAgain (orbit z24_parts (dimension_in induced.now.tables) (matrix_in quotient.now induced.now.tables) (vector z24_laws exact_z24 w.now)) first (end - first) repeats.now k) }
+    requires again { IfSome from (λ k. AreAgain k24_laws (orbit z24_parts (dimension_in induced.now.tables) (matrix_in quotient.now induced.now.tables) (vector z24_laws exact_z24 w.now)) first (end - first) repeats.now k) }
     requires room { length row.old ≡ (dimension_in induced.now.tables) + (dimension_in induced.now.tables) }
     requires some { first < end }
     requires end { end ≤ order_of quotient.now }

@@ -1,6 +1,7 @@
 use Rattle.std.proofs.Common.{◌≡◌, ◌<◌, ◌≤◌, ◌+◌, ◌*◌, ◌/◌, ℕ, sym, ◌∙◌, ap, subst, arith, length, mul-le-mul, rules}
 use Rattle.std.proofs.lemmas.Nat.{div_below}
 use Rattle.cyclo24.specs.Z24.{exact_z24}
+use Rattle.cyclo24.specs.ExactK24.{k24_laws}
 use Rattle.cyclo24.specs.ExactZ24.{z24_laws}
 use Rattle.lin_alg.specs.Rows.{vector}
 use Rattle.super_group.specs.Quotient.{order_of}
@@ -131,5 +132,5 @@ returns-clause-again c =
     let ea = (c.arms-arms.ensures.value ∙ ap (λ (x : WaveStar). length x.by) c.star.ensures) in
     let e : (c.moved-arm.result * A + c.moved-other.result) * T ≡ (c.moved-arm.result * c.arms-arms.result + c.moved-other.result) * length c.translations-count.result.now =
     sym (λ i. (c.moved-arm.result * ea i + c.moved-other.result) * length (c.translations-count.ensures i)) in
-    subst (λ (k : ℕ). AreAgain (orbit z24_parts n D w) (c.args.r * T) T c.args.repeats.now k) e
+    subst (λ (k : ℕ). AreAgain k24_laws (orbit z24_parts n D w) (c.args.r * T) T c.args.repeats.now k) e
     (again-at R T n m A D w i j c.requires.sparse c.args.repeats.now c.requires.repeats c.args.r c.moved-arm.result c.moved-other.result c.requires.rotation c.moved-arm.ensures.below c.moved-other.ensures.below zi zj)

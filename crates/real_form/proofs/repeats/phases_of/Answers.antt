@@ -44,7 +44,7 @@ loop-d-preserved c =
     let m = size_in c.args.induced.now.tables in
     let A = length (star_in c.args.induced.now).by in
     let D = matrix_in s c.args.induced.now.tables in
-    phases-more R T n m A D c.loop-d.phases.items c.push.new.self.items c.phase.result c.loop-d.d c.in-Ok.ensures.items c.loop-d.invariant
+    phases-more R T n m A D c.loop-d.phases.items c.push.new.self.items c.phase.result c.loop-d.d c.in-Ok.ensures.items c.loop-d.invariant c.phase.ensures.below
     (subst (λ (k : ℕ). IsPhase R T n m D c.phase.result (c.loop-d.d / k) (c.loop-d.d % k)) (ap length c.translations-count.ensures) c.phase.ensures.matrix)
 
 pub returns : goal.returns

@@ -1,7 +1,7 @@
 use Rattle.std.proofs.Common.{◌<◌, ◌≤◌, ◌+◌, arith, length}
 use Rattle.cyclo24.specs.K24.{exact24}
 use Rattle.cyclo24.specs.Z24.{exact_z24}
-use Rattle.cyclo24.specs.ExactK24.{k24}
+use Rattle.cyclo24.specs.ExactK24.{k24, k24_laws}
 use Rattle.cyclo24.specs.ExactZ24.{z24_laws}
 use Rattle.lin_alg.specs.Rows.{vector}
 use Rattle.super_group.specs.Quotient.{order_of}
@@ -41,4 +41,4 @@ insert_other-requires-clause-again c =
     let n = (dimension_in c.args.induced.now.tables) in
     let a = orbit z24_parts n (matrix_in c.args.quotient.now c.args.induced.now.tables) (vector z24_laws exact_z24 c.args.w.now) in
     let l = c.loop-q.auto.q in
-    again-here a c.args.first c.args.end c.loop-q.q c.args.repeats.now c.args.from (omega (arith, l)) c.loop-q-test.true c.requires.again
+    again-here k24_laws a c.args.first c.args.end c.loop-q.q c.args.repeats.now c.args.from (omega (arith, l)) c.loop-q-test.true c.requires.again
