@@ -24,4 +24,6 @@ mod AssemblyLemmas
 mod FactorLemmas
 mod SparseLemmas
 mod RepeatLemmas
+mod ScaledLaws
+mod ShiftLemmas
 mod PhaseLemmas

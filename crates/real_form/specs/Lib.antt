@@ -22,6 +22,8 @@ pub mod Spanned
 pub mod Vectors
 -- vectors that are 0 but at two places, and translations whose images of them are combinations of others
 pub mod Sparse
+-- candidates of which a translation moves one to a multiple of the other
+pub mod Shifts
 -- the group that acts by kept matrices
 pub mod Actions
 -- what a real form keeps

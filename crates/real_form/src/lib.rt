@@ -23,6 +23,7 @@ mod product;
 mod real_basis;
 mod repeats;
 mod search;
+mod shifts;
 mod span;
 mod sparse;
 

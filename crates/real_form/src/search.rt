@@ -1,5 +1,5 @@
 // The first vector that fits.
-ghost use Rattle.std.specs.Prelude.{◌≡◌, ◌+◌, ◌*◌, map, Some, Err, IfOk, IfSome, IfNone, length};
+ghost use Rattle.std.specs.Prelude.{◌≡◌, ◌+◌, ◌*◌, ◌<◌, map, take, Some, Err, IfOk, IfSome, IfNone, length, slice_index_or};
 ghost use Rattle.std.specs.Option.{option_copied, ForSome};
 ghost use Rattle.cyclo24.specs.K24.{exact24};
 ghost use Rattle.cyclo24.specs.ExactK24.{k24_laws};
@@ -10,12 +10,15 @@ ghost use Rattle.induce.specs.Tables.{dimension_in, matrix_in, size_in};
 ghost use Rattle.induce.specs.InducedView.{IsInducedOf, star_in};
 ghost use Rattle.real_form.specs.Orbits.{FirstOf, NoneOf};
 ghost use Rattle.real_form.specs.RealBasis.{IsBasisOf, FitsNot, IsWideSpans};
+ghost use Rattle.real_form.specs.Wide.{IsWideOrbit};
+ghost use Rattle.real_form.specs.declared.candidate.Candidate.TheVariants as candidate;
 ghost use Rattle.real_form.specs.Candidates.{candidate_vector, candidates_of, tried, ArePowers};
 ghost use Rattle.real_form.specs.Sparse.{AreRepeats};
 
 use crate::candidate::{Candidate, candidate_row};
 use crate::candidates::candidates;
 use crate::repeats::repeats;
+use crate::shifts::is_shifted;
 use crate::span::span_of;
 use cyclo24::{K24, Z24};
 use induce::Induced;
@@ -79,6 +82,36 @@ fn candidate_form(
     first_form(alloc, quotient, induced, &all, &repeats)
 }
 
+// The form of the span of the orbit of the candidate at place k, where none before it fits. That of a
+// multiple of an image of one before it isn't formed.
+fn tried_form(
+    alloc: Global,
+    quotient: &Quotient,
+    induced: &Induced,
+    candidates: &[Candidate],
+    repeats: &[bool],
+    k: usize,
+) -> Result<Option<Echelon<K24>>, LinError>
+    requires of { IsInducedOf quotient.now induced.now }
+    requires repeats { AreRepeats (length quotient.now.parent.ops) (length quotient.now.translations) (dimension_in induced.now.tables) (size_in induced.now.tables) (length (star_in induced.now).by) (matrix_in quotient.now induced.now.tables) repeats.now (length (star_in induced.now).by * length (star_in induced.now).by * length quotient.now.translations) }
+    requires powers { ArePowers candidates.now }
+    requires inside { k < length candidates.now }
+    requires before { NoneOf (FitsNot (dimension_in induced.now.tables) (order_of quotient.now) (matrix_in quotient.now induced.now.tables)) (map (candidate_vector (dimension_in induced.now.tables)) (take k candidates.now)) }
+    ensures some { IfOk result (λ answer. IfSome answer (λ form. IsBasisOf (dimension_in induced.now.tables) (order_of quotient.now) (matrix_in quotient.now induced.now.tables) (exact_rows k24_laws exact24 form.rows) (candidate_vector (dimension_in induced.now.tables) (slice_index_or candidates.now k (candidate.Place 0))))) }
+    ensures shape { IfOk result (λ answer. IfSome answer (λ form. HaveWidth ((dimension_in induced.now.tables) + (dimension_in induced.now.tables)) form.rows)) }
+    ensures none { IfOk result (λ answer. IfNone answer (FitsNot (dimension_in induced.now.tables) (order_of quotient.now) (matrix_in quotient.now induced.now.tables) (candidate_vector (dimension_in induced.now.tables) (slice_index_or candidates.now k (candidate.Place 0))))) }
+    ensures wide { (result ≡ Err lin_error.Wide) → IsWideOrbit (dimension_in induced.now.tables) (order_of quotient.now) (matrix_in quotient.now induced.now.tables) (candidate_vector (dimension_in induced.now.tables) (slice_index_or candidates.now k (candidate.Place 0))) }
+{
+    let _order = quotient.order();
+    let _size = induced.rep().size();
+    let n = induced.dim();
+    if is_shifted(quotient, induced, candidates, k) {
+        return Ok(None);
+    }
+    let row = candidate_row(alloc, candidates[k], n)?;
+    span_of(alloc, quotient, induced, &row, repeats)
+}
+
 // The form of the span of the orbit of the first candidate that fits.
 fn first_form(
     alloc: Global,
@@ -95,9 +128,8 @@ fn first_form(
     ensures none { IfOk result (λ answer. IfNone answer (NoneOf (FitsNot (dimension_in induced.now.tables) (order_of quotient.now) (matrix_in quotient.now induced.now.tables)) (map (candidate_vector (dimension_in induced.now.tables)) candidates.now))) }
     ensures wide { (result ≡ Err lin_error.Wide) → IsWideSpans (dimension_in induced.now.tables) (order_of quotient.now) (matrix_in quotient.now induced.now.tables) (map (candidate_vector (dimension_in induced.now.tables)) candidates.now) }
 {
-    for candidate in candidates {
-        let row = candidate_row(alloc, *candidate, induced.dim())?;
-        match span_of(alloc, quotient, induced, &row, repeats) {
+    for k in 0..candidates.len() {
+        match tried_form(alloc, quotient, induced, candidates, repeats, k) {
             Ok(Some(form)) => return Ok(Some(form)),
             Ok(None) => {}
             Err(error) => return Err(error),

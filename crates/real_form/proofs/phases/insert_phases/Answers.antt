@@ -1,4 +1,4 @@
-use Rattle.std.proofs.Common.{◌≡◌, ◌∷◌, ◌∙◌, ℕ, subst}
+use Rattle.std.proofs.Common.{◌∷◌, ℕ, subst}
 use Rattle.cyclo24.specs.K24.{exact24}
 use Rattle.cyclo24.specs.ExactK24.{Exact24, k24_laws}
 use Rattle.lin_alg.specs.Spans.{row_vectors, IsInSpan, AreSame}

@@ -1,4 +1,4 @@
-use Rattle.std.proofs.Common.{◌≡◌, ◌<◌, ◌≤◌, ◌+◌, ◌*◌, arith, length}
+use Rattle.std.proofs.Common.{◌+◌}
 use Rattle.cyclo24.specs.K24.{exact24}
 use Rattle.cyclo24.specs.ExactK24.{k24}
 use Rattle.real_form.specs.Sparse.{pair_rows}

@@ -1,4 +1,4 @@
-use Rattle.std.proofs.Common.{◌≡◌, ◌<◌, ◌*◌, ◌/◌, ◌%◌, length}
+use Rattle.std.proofs.Common.{◌≡◌, ◌<◌, ◌/◌, ◌%◌, length}
 use Rattle.cyclo24.specs.K24.{exact24}
 use Rattle.cyclo24.specs.ExactK24.{k24_laws}
 use Rattle.induce.specs.Tables.{dimension_in, matrix_in, size_in}

@@ -1,4 +1,4 @@
-use Rattle.std.proofs.Common.{◌<◌, arith}
+use Rattle.std.proofs.Common.{arith}
 use Rattle.cyclo24.specs.K24.{exact24}
 use Rattle.cyclo24.specs.ExactK24.{k24}
 use Rattle.real_form.proofs.SpannedLemmas.{part-empty}

@@ -6,5 +6,5 @@ use Rattle.real_form.specs.RealBasis.{FitsNot}
 use Rattle.real_form.specs.Candidates.{candidate_vector}
 use Rattle.real_form.proofs.search.first_form.Given as goal
 
-abbrev pub invariant-loop-candidate : goal.invariant-loop-candidate
-invariant-loop-candidate l = NoneOf (FitsNot (dimension_in l.induced.tables) (order_of l.quotient) (matrix_in l.quotient l.induced.tables)) (map (candidate_vector (dimension_in l.induced.tables)) (take l.candidate-index l.candidates))
+abbrev pub invariant-loop-k : goal.invariant-loop-k
+invariant-loop-k l = NoneOf (FitsNot (dimension_in l.induced.tables) (order_of l.quotient) (matrix_in l.quotient l.induced.tables)) (map (candidate_vector (dimension_in l.induced.tables)) (take l.k l.candidates))
