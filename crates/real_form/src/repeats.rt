@@ -57,8 +57,9 @@ fn is_repeated(phases: &[u8], count: usize, j: usize, k: usize, t: usize) -> boo
     false
 }
 
-// The same, or that the phases of t are a combination of those that were inserted into the form, where
-// they are inserted. The form is emptied before the first translation, and where a number is too wide.
+// Whether the phases of translation t on arms j and k are a real combination of those of earlier ones,
+// of which the form holds some. New ones are inserted; where a number is too wide the form is emptied, and
+// later translations are told new that needn't be.
 fn is_combined(
     form: &mut Echelon<K24>,
     row: &mut [K24],

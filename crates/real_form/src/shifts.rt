@@ -12,8 +12,8 @@ use super_group::Quotient;
 /// The order of z.
 const ROOT_ORDER: u8 = 24;
 
-// A number from 1 to a such that a translation multiplies the rows of arm j by a power of z, and those of
-// arm k by that power of z besides.
+// A number d from 1 to a such that a translation multiplies the rows of arm j by a power z^p, and those of
+// arm k by z^(p + d).
 fn shift_of(quotient: &Quotient, induced: &Induced, j: usize, k: usize, a: u8) -> Option<u8>
     requires of { IsInducedOf quotient.now induced.now }
     requires first { j < length (star_in induced.now).by }
