@@ -1,5 +1,5 @@
-use Rattle.std.proofs.Common.{◌≡◌, ℕ, zero, suc, ◌+◌, ◌*◌, ◌/◌, ◌%◌, ◌<◌, ◌≤◌, ◌⊎◌, inl, inr, Bool, true, sym, ◌∙◌, refl, ap, subst, arith, List, length, set, get_or, length-set}
-use Rattle.std.proofs.lemmas.Nat.{div-add-mod', mod_below}
+use Rattle.std.proofs.Common.{◌≡◌, ℕ, zero, suc, ◌+◌, ◌*◌, ◌-◌, ◌/◌, ◌%◌, ◌<◌, ◌≤◌, ◌⊎◌, inl, inr, Bool, true, sym, ◌∙◌, refl, ap, subst, arith, List, length, set, get_or, length-set}
+use Rattle.std.proofs.lemmas.Nat.{div-add-mod', mod_below, div-mul-add}
 use Rattle.std.proofs.Math.Nat.{mul-le-mul_left, mul_comm}
 use Rattle.algebra.specs.SumLaws.{decide}
 use Rattle.cyclo24.specs.FieldOn.{FieldOn}
@@ -15,7 +15,7 @@ use Rattle.lin_alg.specs.Matrices.{apply}
 use Rattle.lin_alg.specs.Matrix.{IsWideTerm, IsWideDot}
 use Rattle.real_form.specs.Parts.{orbit}
 use Rattle.real_form.specs.Complexes.{z24_parts}
-use Rattle.real_form.specs.Sparse.{IsSparse}
+use Rattle.real_form.specs.Sparse.{IsSparse, products}
 use Rattle.real_form.proofs.PartsLaws.{place}
 use Rattle.real_form.proofs.ImageLemmas.{part-re, part-im, part-past}
 use Rattle.real_form.proofs.TermLemmas.{dot-wide}
@@ -59,12 +59,37 @@ module _ {A : Type 0} (f : ExactField) (value : A → Value f) where
   pub zero-at : (xs : List A) (i : ℕ) (x : A) (b : Bool) → i < length xs → x ≡ get_or xs i x → b ≡ f.laws.is_nought (value x) → b ≡ true → vector f.laws value xs i ≡ f.laws.nought
   zero-at xs i x b l e d t = vector-at f value xs i x l e ∙ f.laws.is_nought-true (value x) (sym d ∙ t)
 
-module _ (f : ExactField) (n : ℕ) (x w : ℕ → Value f) (i j : ℕ) (h : IsSparse f.laws n w i j) where
+-- the products of a row with a vector that is 0 but at two places
+module _ {K : Type 0} (f : FieldOn K) (n : ℕ) (x w : ℕ → K) (i j : ℕ) (h : IsSparse f n w i j) where
+  pub products-zero : (k : ℕ) → (k ≡ i → ⊥) → (k ≡ j → ⊥) → products f x w k ≡ f.nought
+  products-zero k a b = ap (f.times (x k)) (h.zero k a b) ∙ times-nought f (x k)
+
+  product-zero : (m k : ℕ) → k ≡ m → x m ≡ f.nought → products f x w k ≡ f.nought
+  product-zero m k e z = ap (λ y. f.times y (w k)) (ap x e ∙ z) ∙ nought-times f (w k)
+
+  pub products-sparse : IsSparse f n (products f x w) i j
+  products-sparse = record { rises = h.rises; inside = h.inside; zero = products-zero }
+
+  pub products-first : x j ≡ f.nought → IsSparse f n (products f x w) i i
+  products-first z = record {
+    rises = omega arith;
+    inside = let r = h.rises in let l = h.inside in omega (arith, r, l);
+    zero = λ k a _. elim (decide k j) [ inl e ↦ product-zero j k e z | inr b ↦ products-zero k a b ];
+  }
+
+  pub products-last : x i ≡ f.nought → IsSparse f n (products f x w) j j
+  products-last z = record {
+    rises = omega arith;
+    inside = h.inside;
+    zero = λ k b _. elim (decide k i) [ inl e ↦ product-zero i k e z | inr a ↦ products-zero k a b ];
+  }
+
+module _ (f : ExactField) (n : ℕ) (x w : ℕ → Value f) (i j : ℕ) (h : IsSparse f.laws n (products f.laws x w) i j) where
   abbrev g : ℕ → Value f
-  g = λ k. f.laws.times (x k) (w k)
+  g = products f.laws x w
 
   none : (k : ℕ) → (k ≡ i → ⊥) → (k ≡ j → ⊥) → g k ≡ f.laws.nought
-  none k a b = ap (f.laws.times (x k)) (h.zero k a b) ∙ times-nought f.laws (x k)
+  none = h.zero
 
   before : total f.laws i g ≡ f.laws.nought
   before =
@@ -98,14 +123,15 @@ module _ (f : ExactField) (n : ℕ) (x w : ℕ → Value f) (i j : ℕ) (h : IsS
   pub wide-last : (z s : Value f) → z ≡ f.laws.nought → (i ≡ j → ⊥) → s ≡ f.laws.plus z (g i) → IsWideTerm f s (x j) (w j) → IsWideDot f n x w
   wide-last z s ez d es t = dot-wide f n j x w s h.inside (upto z s ez es ∙ sym (between (apart d))) t
 
-  -- a row that is 0 at both places
-  pub dead : x i ≡ f.laws.nought → x j ≡ f.laws.nought → total f.laws n g ≡ f.laws.nought
+-- a row that is 0 at both places
+module _ (f : ExactField) (n : ℕ) (x w : ℕ → Value f) (i j : ℕ) (h : IsSparse f.laws n w i j) where
+  pub dead : x i ≡ f.laws.nought → x j ≡ f.laws.nought → total f.laws n (products f.laws x w) ≡ f.laws.nought
   dead a b =
-      total-flat f.laws g 0 n (omega arith) (λ k _ _. elim (decide k i) [
+      total-flat f.laws (products f.laws x w) 0 n (omega arith) (λ k _ _. elim (decide k i) [
         | inl e ↦ ap (λ y. f.laws.times y (w k)) (ap x e ∙ a) ∙ nought-times f.laws (w k)
         | inr d ↦ elim (decide k j) [
           | inl e ↦ ap (λ y. f.laws.times y (w k)) (ap x e ∙ b) ∙ nought-times f.laws (w k)
-          | inr e ↦ none k d e
+          | inr e ↦ products-zero f.laws n x w i j h k d e
         ]
       ])
 
@@ -217,3 +243,11 @@ arm-row s arm k some e =
 
 pub first-inside : (n : ℕ) (w : ℕ → ExactZ24) (i j : ℕ) → IsSparse z24_laws n w i j → i < n
 first-inside n w i j h = let a = h.rises in let b = h.inside in omega (arith, a, b)
+
+-- such a row is of the arm
+pub row-arm : (s arm a : ℕ) → arm * s ≤ a → a < (arm + 1) * s → a / s ≡ arm
+row-arm s arm a l u =
+    let e : a ≡ arm * s + (a - arm * s) = omega (arith, l) in
+    let n : (arm + 1) * s ≡ arm * s + s = omega arith in
+    let b : a - arm * s < s = omega (arith, l, u, n) in
+    ap (λ k. k / s) e ∙ div-mul-add arm s (a - arm * s) b

@@ -1,6 +1,7 @@
 -- Vectors that are 0 but at two places, and translations whose images of them are combinations of others.
 --
 -- IsSparse f n w i j: the vector of n entries is 0 but at places i and j, i at most j
+-- products f x y: the products of the entries of two vectors
 -- IsPhase R T n s D p j t: the rows of arm j, s rows an arm, of D(r T + t) are z^p times those of D(r T), for each r below R
 -- ArePhases R T n s D xs k: the phases of the translations, T for each arm, up to number k
 -- phase_row p o: z^p and z^o, as a row of four real numbers
@@ -22,6 +23,10 @@ pub record IsSparse {K : Type 0} (f : FieldOn K) (n : ℕ) (w : ℕ → K) (i j 
   pub rises : i ≤ j
   pub inside : j < n
   pub zero : (k : ℕ) → (k ≡ i → ⊥) → (k ≡ j → ⊥) → w k ≡ f.nought
+
+-- entry by entry
+abbrev pub products : {K : Type 0} → FieldOn K → (ℕ → K) → (ℕ → K) → ℕ → K
+products f x y k = f.times (x k) (y k)
 
 -- the rows of arm j are multiplied by z^p
 abbrev pub IsPhase : ℕ → ℕ → ℕ → ℕ → (ℕ → ℕ → ℕ → ExactZ24) → ℕ → ℕ → ℕ → Type 0

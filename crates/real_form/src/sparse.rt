@@ -12,7 +12,7 @@ ghost use Rattle.induce.specs.Tables.{dimension_in, matrix_in, size_in};
 ghost use Rattle.induce.specs.InducedView.{IsInducedOf, star_in};
 ghost use Rattle.real_form.specs.Parts.{orbit};
 ghost use Rattle.real_form.specs.Complexes.{z24_parts};
-ghost use Rattle.real_form.specs.Sparse.{IsSparse};
+ghost use Rattle.real_form.specs.Sparse.{IsSparse, products};
 ghost use Rattle.real_form.specs.Wide.{IsWideImage};
 
 use crate::image::{add_term, fill_image, imag_of, real_of};
@@ -22,7 +22,7 @@ use cyclo24::{Field, K24, Wide, Z24};
 use induce::Induced;
 use super_group::Quotient;
 
-// Entry a of D(q) w: a sum of two products at most.
+// Entry a of D(q) w, where its products are 0 but at the places: a sum of two at most.
 fn sparse_entry(
     quotient: &Quotient,
     induced: &Induced,
@@ -34,7 +34,7 @@ fn sparse_entry(
     requires of { IsInducedOf quotient.now induced.now }
     requires element { q < order_of quotient.now }
     requires length { length w.now ≡ (dimension_in induced.now.tables) }
-    requires sparse { IsSparse z24_laws (dimension_in induced.now.tables) (vector z24_laws exact_z24 w.now) places.first places.last }
+    requires sparse { IsSparse z24_laws (dimension_in induced.now.tables) (products z24_laws (matrix_in quotient.now induced.now.tables q a) (vector z24_laws exact_z24 w.now)) places.first places.last }
     requires row { a < (dimension_in induced.now.tables) }
     ensures exact { IfOk result (λ x. exact_z24 x ≡ apply z24_laws (dimension_in induced.now.tables) (matrix_in quotient.now induced.now.tables q) (vector z24_laws exact_z24 w.now) a) }
     ensures wide { OnErr result (IsWideDot z24 (dimension_in induced.now.tables) (matrix_in quotient.now induced.now.tables q a) (vector z24_laws exact_z24 w.now)) }
@@ -59,7 +59,7 @@ fn write_entry(
     requires of { IsInducedOf quotient.now induced.now }
     requires element { q < order_of quotient.now }
     requires length { length w.now ≡ (dimension_in induced.now.tables) }
-    requires sparse { IsSparse z24_laws (dimension_in induced.now.tables) (vector z24_laws exact_z24 w.now) places.first places.last }
+    requires sparse { IsSparse z24_laws (dimension_in induced.now.tables) (products z24_laws (matrix_in quotient.now induced.now.tables q a) (vector z24_laws exact_z24 w.now)) places.first places.last }
     requires row { a < (dimension_in induced.now.tables) }
     requires room { length row.old ≡ (dimension_in induced.now.tables) + (dimension_in induced.now.tables) }
     ensures first { OnOk result (vector k24_laws exact24 row.new a ≡ orbit z24_parts (dimension_in induced.now.tables) (matrix_in quotient.now induced.now.tables) (vector z24_laws exact_z24 w.now) q a) }
@@ -73,7 +73,7 @@ fn write_entry(
     Ok(())
 }
 
-// Writes the entries of D(q) w in the rows of an arm.
+// Writes the entries of D(q) w in the rows of an arm, where the products are 0 but at the places.
 fn write_arm(
     row: &mut [K24],
     quotient: &Quotient,
@@ -86,7 +86,7 @@ fn write_arm(
     requires of { IsInducedOf quotient.now induced.now }
     requires element { q < order_of quotient.now }
     requires length { length w.now ≡ (dimension_in induced.now.tables) }
-    requires sparse { IsSparse z24_laws (dimension_in induced.now.tables) (vector z24_laws exact_z24 w.now) places.first places.last }
+    requires sparse { (a : ℕ) → a < (dimension_in induced.now.tables) → a / size_in induced.now.tables ≡ arm → IsSparse z24_laws (dimension_in induced.now.tables) (products z24_laws (matrix_in quotient.now induced.now.tables q a) (vector z24_laws exact_z24 w.now)) places.first places.last }
     requires arm { arm < length (star_in induced.now).by }
     requires room { length row.old ≡ (dimension_in induced.now.tables) + (dimension_in induced.now.tables) }
     ensures first { OnOk result ((k : ℕ) → k < (dimension_in induced.now.tables) → k / size_in induced.now.tables ≡ arm → vector k24_laws exact24 row.new k ≡ orbit z24_parts (dimension_in induced.now.tables) (matrix_in quotient.now induced.now.tables) (vector z24_laws exact_z24 w.now) q k) }
@@ -103,7 +103,7 @@ fn write_arm(
 }
 
 // Writes D(q) w as a real vector. Only the rows of the arms to which q moves those of the two places
-// are computed; all others are 0.
+// are computed, each of two arms by its own place; all others are 0.
 pub(crate) fn fill_sparse(
     row: &mut [K24],
     quotient: &Quotient,
@@ -124,12 +124,21 @@ pub(crate) fn fill_sparse(
     let _arms = induced.star().arms();
     clear(row);
     let arm = induced.moved(quotient, q, places.first / size);
-    write_arm(row, quotient, induced, w, places, q, arm)?;
     let other = induced.moved(quotient, q, places.last / size);
     if other == arm {
+        write_arm(row, quotient, induced, w, places, q, arm)?;
         return Ok(());
     }
-    write_arm(row, quotient, induced, w, places, q, other)?;
+    let first = Places {
+        first: places.first,
+        last: places.first,
+    };
+    write_arm(row, quotient, induced, w, first, q, arm)?;
+    let last = Places {
+        first: places.last,
+        last: places.last,
+    };
+    write_arm(row, quotient, induced, w, last, q, other)?;
     Ok(())
 }
 

@@ -9,7 +9,7 @@ use Rattle.induce.specs.Tables.{dimension_in, matrix_in, size_in}
 use Rattle.real_form.specs.Parts.{orbit}
 use Rattle.real_form.specs.Complexes.{z24_parts}
 use Rattle.induce.specs.InducedView.{star_in}
-use Rattle.real_form.proofs.SparseLemmas.{AreRight, right-start, right-next, arm-end, arm-row}
+use Rattle.real_form.proofs.SparseLemmas.{AreRight, right-start, right-next, arm-end, arm-row, row-arm}
 use Rattle.real_form.proofs.sparse.write_arm.Goals as goal
 
 pub loop-a-init : goal.loop-a-init
@@ -28,6 +28,17 @@ write_entry-requires-clause-row c =
     let e = ap (λ k. (c.args.arm + 1) * k) (c.size-size.ensures.value ∙ ap (λ (x : CheckedView). x.rep.size) c.rep.ensures) in
     let test = c.loop-a-test.true in
     omega (arith, b, e, test)
+
+pub write_entry-requires-clause-sparse : goal.write_entry-requires-clause-sparse
+write_entry-requires-clause-sparse c =
+    let s = size_in c.args.induced.now.tables in
+    let b : (c.args.arm + 1) * s ≤ length (star_in c.args.induced.now).by * s = arm-end (length (star_in c.args.induced.now).by) s c.args.arm c.requires.arm in
+    let es = (c.size-size.ensures.value ∙ ap (λ (x : CheckedView). x.rep.size) c.rep.ensures) in
+    let e = ap (λ k. (c.args.arm + 1) * k) es in
+    let f = ap (λ k. c.args.arm * k) es in
+    let test = c.loop-a-test.true in
+    let low = c.loop-a.auto.a in
+    c.requires.sparse c.loop-a.a (omega (arith, b, e, test)) (row-arm s c.args.arm c.loop-a.a (omega (arith, f, low)) (omega (arith, e, test)))
 
 pub loop-a-preserved : goal.loop-a-preserved
 loop-a-preserved c =
