@@ -1,5 +1,5 @@
 // Images of complex vectors, as real ones.
-ghost use Rattle.std.specs.Prelude.{◌≡◌, ◌<◌, ◌+◌, ℕ, IfOk, OnOk, OnErr, IsTrue, length};
+ghost use Rattle.std.specs.Prelude.{◌≡◌, ◌<◌, ◌+◌, ℕ, true, IfOk, OnOk, OnErr, IsTrue, length};
 ghost use Rattle.cyclo24.specs.K24.{exact24};
 ghost use Rattle.cyclo24.specs.Z24.{exact_z24};
 ghost use Rattle.cyclo24.specs.ExactK24.{k24, k24_laws};
@@ -17,10 +17,21 @@ ghost use Rattle.real_form.specs.Wide.{IsWideImage};
 
 use cyclo24::{Field, K24, Wide, Z24};
 use induce::Induced;
-use lin_alg::add_product;
+use lin_alg::{add_product, are_equal};
 use super_group::Quotient;
 
-// The sum and entry (i, j) of D(q) times w[j].
+// Whether the sum is 0 and the factor is 1.
+fn is_entry_alone<F: Field>(sum: F, x: F) -> bool
+    ensures sum { (result ≡ true) → F.value sum ≡ F.field.laws.nought }
+    ensures factor { (result ≡ true) → F.value x ≡ F.field.laws.unit }
+{
+    if sum.is_zero() {
+        return are_equal(x, F::one());
+    }
+    false
+}
+
+// The sum and entry (i, j) of D(q) times w[j]. A first product by 1 isn't formed.
 pub(crate) fn add_term(
     quotient: &Quotient,
     induced: &Induced,
@@ -42,7 +53,11 @@ pub(crate) fn add_term(
     if x.is_zero() {
         return Ok(sum);
     }
-    add_product(sum, induced.entry(quotient, q, i, j), x)
+    let entry = induced.entry(quotient, q, i, j);
+    if is_entry_alone(sum, x) {
+        return Ok(entry);
+    }
+    add_product(sum, entry, x)
 }
 
 // The real part. That of 0 isn't computed.
