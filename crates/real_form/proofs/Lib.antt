@@ -23,7 +23,7 @@ mod AnswerLemmas
 mod AssemblyLemmas
 mod FactorLemmas
 mod SparseLemmas
-mod RepeatLemmas
+mod CombinedLemmas
 mod ScaledLaws
 mod ShiftLemmas
 mod PhaseLemmas

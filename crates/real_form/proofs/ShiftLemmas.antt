@@ -18,7 +18,7 @@ use Rattle.real_form.specs.Sparse.{IsPhase, ArePhases}
 use Rattle.real_form.specs.Shifts.{IsShift, IsShifted}
 use Rattle.real_form.proofs.Factors.{some_rotation, translation_of_order}
 use Rattle.real_form.proofs.PartsLaws.{apply-unit}
-use Rattle.real_form.proofs.RepeatLemmas.{phase-at}
+use Rattle.real_form.proofs.CombinedLemmas.{phase-at}
 use Rattle.real_form.proofs.ScaledLaws.{moved-fits}
 
 -- the entries of 1 at i, and z^a at j

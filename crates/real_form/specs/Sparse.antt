@@ -6,7 +6,7 @@
 -- ArePhases R T n s D xs k: the phases of the translations, T for each arm, up to number k
 -- phase_row p o: z^p and z^o, as a row of four real numbers
 -- pair_rows xs T j k t: these rows of the phases of translation t on arms j and k
--- AreRepeats R T n s A D xs m: which translations' rows are combinations of those of earlier ones, T for each pair of A arms, up to number m
+-- AreCombined R T n s A D xs m: which translations' rows are combinations of those of earlier ones, T for each pair of A arms, up to number m
 -- AreAgain a first m xs k: of the m rows a from first on, each that xs marks from place k on is a combination of those before it
 use Rattle.std.specs.Prelude.{◌≡◌, ℕ, zero, suc, ◌+◌, ◌*◌, ◌/◌, ◌%◌, ◌<◌, ◌≤◌, List, Bool, true, false, length, slice_index, slice_index_or}
 use Rattle.cyclo24.specs.FieldOn.{FieldOn}
@@ -52,7 +52,7 @@ abbrev pub pair_rows : List ℕ → ℕ → ℕ → ℕ → ℕ → ℕ → Exac
 pair_rows xs T j k t = phase_row (slice_index xs (j * T + t)) (slice_index xs (k * T + t))
 
 -- which translations' phases on the arms of a pair are a real combination of those of earlier ones, pair by pair; and each D(r T + t) is 0 where D(r T) is
-pub record AreRepeats (R T n s A : ℕ) (D : ℕ → ℕ → ℕ → ExactZ24) (xs : List Bool) (m : ℕ) : Type 0 where
+pub record AreCombined (R T n s A : ℕ) (D : ℕ → ℕ → ℕ → ExactZ24) (xs : List Bool) (m : ℕ) : Type 0 where
   pub phases : List ℕ
   pub are_phases : ArePhases R T n s D phases (A * T)
   pub count : length xs ≡ m

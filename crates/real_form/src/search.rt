@@ -13,11 +13,11 @@ ghost use Rattle.real_form.specs.RealBasis.{IsBasisOf, FitsNot, IsWideSpans};
 ghost use Rattle.real_form.specs.Wide.{IsWideOrbit};
 ghost use Rattle.real_form.specs.declared.candidate.Candidate.TheVariants as candidate;
 ghost use Rattle.real_form.specs.Candidates.{candidate_vector, candidates_of, tried, ArePowers};
-ghost use Rattle.real_form.specs.Sparse.{AreRepeats};
+ghost use Rattle.real_form.specs.Sparse.{AreCombined};
 
 use crate::candidate::{Candidate, candidate_row};
 use crate::candidates::candidates;
-use crate::repeats::repeats;
+use crate::combined::combined;
 use crate::shifts::is_shifted;
 use crate::span::span_of;
 use cyclo24::{K24, Z24};
@@ -61,8 +61,8 @@ fn given_form(
     ensures none { IfOk result (λ answer. IfNone answer (NoneOf (FitsNot (dimension_in induced.now.tables) (order_of quotient.now) (matrix_in quotient.now induced.now.tables)) (tried (dimension_in induced.now.tables) (Some w.now)))) }
     ensures wide { (result ≡ Err lin_error.Wide) → IsWideSpans (dimension_in induced.now.tables) (order_of quotient.now) (matrix_in quotient.now induced.now.tables) (tried (dimension_in induced.now.tables) (Some w.now)) }
 {
-    let repeats = repeats(alloc, quotient, induced)?;
-    span_of(alloc, quotient, induced, w, &repeats)
+    let combined = combined(alloc, quotient, induced)?;
+    span_of(alloc, quotient, induced, w, &combined)
 }
 
 // The same for the candidates.
@@ -78,8 +78,8 @@ fn candidate_form(
     ensures wide { (result ≡ Err lin_error.Wide) → IsWideSpans (dimension_in induced.now.tables) (order_of quotient.now) (matrix_in quotient.now induced.now.tables) (map (candidate_vector (dimension_in induced.now.tables)) (candidates_of (dimension_in induced.now.tables))) }
 {
     let all = candidates(alloc, induced.dim())?;
-    let repeats = repeats(alloc, quotient, induced)?;
-    first_form(alloc, quotient, induced, &all, &repeats)
+    let combined = combined(alloc, quotient, induced)?;
+    first_form(alloc, quotient, induced, &all, &combined)
 }
 
 // The form of the span of the orbit of the candidate at place k, where none before it fits. That of a
@@ -89,11 +89,11 @@ fn tried_form(
     quotient: &Quotient,
     induced: &Induced,
     candidates: &[Candidate],
-    repeats: &[bool],
+    combined: &[bool],
     k: usize,
 ) -> Result<Option<Echelon<K24>>, LinError>
     requires of { IsInducedOf quotient.now induced.now }
-    requires repeats { AreRepeats (length quotient.now.parent.ops) (length quotient.now.translations) (dimension_in induced.now.tables) (size_in induced.now.tables) (length (star_in induced.now).by) (matrix_in quotient.now induced.now.tables) repeats.now (length (star_in induced.now).by * length (star_in induced.now).by * length quotient.now.translations) }
+    requires combined { AreCombined (length quotient.now.parent.ops) (length quotient.now.translations) (dimension_in induced.now.tables) (size_in induced.now.tables) (length (star_in induced.now).by) (matrix_in quotient.now induced.now.tables) combined.now (length (star_in induced.now).by * length (star_in induced.now).by * length quotient.now.translations) }
     requires powers { ArePowers candidates.now }
     requires inside { k < length candidates.now }
     requires before { NoneOf (FitsNot (dimension_in induced.now.tables) (order_of quotient.now) (matrix_in quotient.now induced.now.tables)) (map (candidate_vector (dimension_in induced.now.tables)) (take k candidates.now)) }
@@ -109,7 +109,7 @@ fn tried_form(
         return Ok(None);
     }
     let row = candidate_row(alloc, candidates[k], n)?;
-    span_of(alloc, quotient, induced, &row, repeats)
+    span_of(alloc, quotient, induced, &row, combined)
 }
 
 // The form of the span of the orbit of the first candidate that fits.
@@ -118,10 +118,10 @@ fn first_form(
     quotient: &Quotient,
     induced: &Induced,
     candidates: &[Candidate],
-    repeats: &[bool],
+    combined: &[bool],
 ) -> Result<Option<Echelon<K24>>, LinError>
     requires of { IsInducedOf quotient.now induced.now }
-    requires repeats { AreRepeats (length quotient.now.parent.ops) (length quotient.now.translations) (dimension_in induced.now.tables) (size_in induced.now.tables) (length (star_in induced.now).by) (matrix_in quotient.now induced.now.tables) repeats.now (length (star_in induced.now).by * length (star_in induced.now).by * length quotient.now.translations) }
+    requires combined { AreCombined (length quotient.now.parent.ops) (length quotient.now.translations) (dimension_in induced.now.tables) (size_in induced.now.tables) (length (star_in induced.now).by) (matrix_in quotient.now induced.now.tables) combined.now (length (star_in induced.now).by * length (star_in induced.now).by * length quotient.now.translations) }
     requires powers { ArePowers candidates.now }
     ensures some { IfOk result (λ answer. IfSome answer (λ form. FirstOf (IsBasisOf (dimension_in induced.now.tables) (order_of quotient.now) (matrix_in quotient.now induced.now.tables) (exact_rows k24_laws exact24 form.rows)) (FitsNot (dimension_in induced.now.tables) (order_of quotient.now) (matrix_in quotient.now induced.now.tables)) (map (candidate_vector (dimension_in induced.now.tables)) candidates.now))) }
     ensures shape { IfOk result (λ answer. IfSome answer (λ form. HaveWidth ((dimension_in induced.now.tables) + (dimension_in induced.now.tables)) form.rows)) }
@@ -129,7 +129,7 @@ fn first_form(
     ensures wide { (result ≡ Err lin_error.Wide) → IsWideSpans (dimension_in induced.now.tables) (order_of quotient.now) (matrix_in quotient.now induced.now.tables) (map (candidate_vector (dimension_in induced.now.tables)) candidates.now) }
 {
     for k in 0..candidates.len() {
-        match tried_form(alloc, quotient, induced, candidates, repeats, k) {
+        match tried_form(alloc, quotient, induced, candidates, combined, k) {
             Ok(Some(form)) => return Ok(Some(form)),
             Ok(None) => {}
             Err(error) => return Err(error),

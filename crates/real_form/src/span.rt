@@ -18,11 +18,11 @@ ghost use Rattle.real_form.specs.Orbits.{Fits};
 ghost use Rattle.real_form.specs.RealBasis.{IsBasisOf};
 ghost use Rattle.real_form.specs.Wide.{IsWideOrbit};
 ghost use Rattle.real_form.specs.Spanned.{HoldsSpan};
-ghost use Rattle.real_form.specs.Sparse.{IsSparse, AreRepeats, AreAgain};
+ghost use Rattle.real_form.specs.Sparse.{IsSparse, AreCombined, AreAgain};
 
+use crate::combined::{combined_from, is_marked};
 use crate::insertion::insert;
 use crate::places::{Places, places_of};
-use crate::repeats::{is_repeat, repeats_from};
 use crate::sparse::form_image;
 use cyclo24::{K24, Z24};
 use induce::Induced;
@@ -69,7 +69,7 @@ fn insert_other(
     induced: &Induced,
     w: &[Z24],
     places: Option<Places>,
-    repeats: &[bool],
+    combined: &[bool],
     from: Option<usize>,
     first: usize,
     q: usize,
@@ -79,14 +79,14 @@ fn insert_other(
     requires sparse { IfSome places (λ p. IsSparse z24_laws (dimension_in induced.now.tables) (vector z24_laws exact_z24 w.now) p.first p.last) }
     requires element { q < order_of quotient.now }
     requires behind { first ≤ q }
-    requires inside { IfSome from (λ k. k + (q - first) < length repeats.now) }
-    requires again { IfSome from (λ k. slice_index_or repeats.now (k + (q - first)) false ≡ true → IsInSpan k24_laws (plain_rows (orbit z24_parts (dimension_in induced.now.tables) (matrix_in quotient.now induced.now.tables) (vector z24_laws exact_z24 w.now)) q) (orbit z24_parts (dimension_in induced.now.tables) (matrix_in quotient.now induced.now.tables) (vector z24_laws exact_z24 w.now) q)) }
+    requires inside { IfSome from (λ k. k + (q - first) < length combined.now) }
+    requires again { IfSome from (λ k. slice_index_or combined.now (k + (q - first)) false ≡ true → IsInSpan k24_laws (plain_rows (orbit z24_parts (dimension_in induced.now.tables) (matrix_in quotient.now induced.now.tables) (vector z24_laws exact_z24 w.now)) q) (orbit z24_parts (dimension_in induced.now.tables) (matrix_in quotient.now induced.now.tables) (vector z24_laws exact_z24 w.now) q)) }
     requires room { length row.old ≡ (dimension_in induced.now.tables) + (dimension_in induced.now.tables) }
     requires held { HoldsSpan k24_laws exact24 ((dimension_in induced.now.tables) + (dimension_in induced.now.tables)) (orbit z24_parts (dimension_in induced.now.tables) (matrix_in quotient.now induced.now.tables) (vector z24_laws exact_z24 w.now)) q form.old }
     ensures held { OnOk result (HoldsSpan k24_laws exact24 ((dimension_in induced.now.tables) + (dimension_in induced.now.tables)) (orbit z24_parts (dimension_in induced.now.tables) (matrix_in quotient.now induced.now.tables) (vector z24_laws exact_z24 w.now)) (q + 1) form.new) }
     ensures wide { (result ≡ Err lin_error.Wide) → IsWideOrbit (dimension_in induced.now.tables) (order_of quotient.now) (matrix_in quotient.now induced.now.tables) (vector z24_laws exact_z24 w.now) }
 {
-    if is_repeat(repeats, from, q - first) {
+    if is_marked(combined, from, q - first) {
         return Ok(Grew::No);
     }
     insert_image(form, row, quotient, induced, w, places, q)
@@ -101,7 +101,7 @@ fn insert_rest(
     induced: &Induced,
     w: &[Z24],
     places: Option<Places>,
-    repeats: &[bool],
+    combined: &[bool],
     from: Option<usize>,
     first: usize,
     end: usize,
@@ -109,8 +109,8 @@ fn insert_rest(
     requires of { IsInducedOf quotient.now induced.now }
     requires length { length w.now ≡ (dimension_in induced.now.tables) }
     requires sparse { IfSome places (λ p. IsSparse z24_laws (dimension_in induced.now.tables) (vector z24_laws exact_z24 w.now) p.first p.last) }
-    requires inside { IfSome from (λ k. k + (end - first) ≤ length repeats.now) }
-    requires again { IfSome from (λ k. AreAgain k24_laws (orbit z24_parts (dimension_in induced.now.tables) (matrix_in quotient.now induced.now.tables) (vector z24_laws exact_z24 w.now)) first (end - first) repeats.now k) }
+    requires inside { IfSome from (λ k. k + (end - first) ≤ length combined.now) }
+    requires again { IfSome from (λ k. AreAgain k24_laws (orbit z24_parts (dimension_in induced.now.tables) (matrix_in quotient.now induced.now.tables) (vector z24_laws exact_z24 w.now)) first (end - first) combined.now k) }
     requires room { length row.old ≡ (dimension_in induced.now.tables) + (dimension_in induced.now.tables) }
     requires some { first < end }
     requires end { end ≤ order_of quotient.now }
@@ -125,7 +125,7 @@ fn insert_rest(
             return Ok(false);
         }
         match insert_other(
-            form, row, quotient, induced, w, places, repeats, from, first, q,
+            form, row, quotient, induced, w, places, combined, from, first, q,
         ) {
             Ok(_) => {}
             Err(error) => return Err(error),
@@ -143,13 +143,13 @@ fn insert_block(
     induced: &Induced,
     w: &[Z24],
     places: Option<Places>,
-    repeats: &[bool],
+    combined: &[bool],
     r: usize,
 ) -> Result<bool, LinError>
     requires of { IsInducedOf quotient.now induced.now }
     requires length { length w.now ≡ (dimension_in induced.now.tables) }
     requires sparse { IfSome places (λ p. IsSparse z24_laws (dimension_in induced.now.tables) (vector z24_laws exact_z24 w.now) p.first p.last) }
-    requires repeats { AreRepeats (length quotient.now.parent.ops) (length quotient.now.translations) (dimension_in induced.now.tables) (size_in induced.now.tables) (length (star_in induced.now).by) (matrix_in quotient.now induced.now.tables) repeats.now (length (star_in induced.now).by * length (star_in induced.now).by * length quotient.now.translations) }
+    requires combined { AreCombined (length quotient.now.parent.ops) (length quotient.now.translations) (dimension_in induced.now.tables) (size_in induced.now.tables) (length (star_in induced.now).by) (matrix_in quotient.now induced.now.tables) combined.now (length (star_in induced.now).by * length (star_in induced.now).by * length quotient.now.translations) }
     requires room { length row.old ≡ (dimension_in induced.now.tables) + (dimension_in induced.now.tables) }
     requires rotation { r < length quotient.now.parent.ops }
     requires held { HoldsSpan k24_laws exact24 ((dimension_in induced.now.tables) + (dimension_in induced.now.tables)) (orbit z24_parts (dimension_in induced.now.tables) (matrix_in quotient.now induced.now.tables) (vector z24_laws exact_z24 w.now)) (r * length quotient.now.translations) form.old }
@@ -166,7 +166,7 @@ fn insert_block(
     match insert_image(form, row, quotient, induced, w, places, first) {
         Ok(Grew::No) => Ok(true),
         Ok(Grew::Yes) => {
-            let from = repeats_from(quotient, induced, w, places, repeats, r);
+            let from = combined_from(quotient, induced, w, places, combined, r);
             insert_rest(
                 form,
                 row,
@@ -174,7 +174,7 @@ fn insert_block(
                 induced,
                 w,
                 places,
-                repeats,
+                combined,
                 from,
                 first,
                 first + count,
@@ -190,11 +190,11 @@ pub(crate) fn span_of(
     quotient: &Quotient,
     induced: &Induced,
     w: &[Z24],
-    repeats: &[bool],
+    combined: &[bool],
 ) -> Result<Option<Echelon<K24>>, LinError>
     requires of { IsInducedOf quotient.now induced.now }
     requires length { length w.now ≡ (dimension_in induced.now.tables) }
-    requires repeats { AreRepeats (length quotient.now.parent.ops) (length quotient.now.translations) (dimension_in induced.now.tables) (size_in induced.now.tables) (length (star_in induced.now).by) (matrix_in quotient.now induced.now.tables) repeats.now (length (star_in induced.now).by * length (star_in induced.now).by * length quotient.now.translations) }
+    requires combined { AreCombined (length quotient.now.parent.ops) (length quotient.now.translations) (dimension_in induced.now.tables) (size_in induced.now.tables) (length (star_in induced.now).by) (matrix_in quotient.now induced.now.tables) combined.now (length (star_in induced.now).by * length (star_in induced.now).by * length quotient.now.translations) }
     ensures some { IfOk result (λ answer. IfSome answer (λ form. IsBasisOf (dimension_in induced.now.tables) (order_of quotient.now) (matrix_in quotient.now induced.now.tables) (exact_rows k24_laws exact24 form.rows) (vector z24_laws exact_z24 w.now))) }
     ensures shape { IfOk result (λ answer. IfSome answer (λ form. HaveWidth ((dimension_in induced.now.tables) + (dimension_in induced.now.tables)) form.rows)) }
     ensures none { IfOk result (λ answer. IfNone answer (Fits z24_parts (dimension_in induced.now.tables) (order_of quotient.now) (matrix_in quotient.now induced.now.tables) (vector z24_laws exact_z24 w.now) → ⊥)) }
@@ -207,7 +207,7 @@ pub(crate) fn span_of(
     let mut row = zeros(alloc, n + n)?;
     for r in 0..quotient.group().len() {
         match insert_block(
-            &mut form, &mut row, quotient, induced, w, places, repeats, r,
+            &mut form, &mut row, quotient, induced, w, places, combined, r,
         ) {
             Ok(true) => {}
             Ok(false) => return Ok(None),

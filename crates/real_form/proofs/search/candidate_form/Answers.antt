@@ -10,7 +10,7 @@ use Rattle.real_form.specs.Orbits.{FirstOf, NoneOf}
 use Rattle.real_form.specs.RealBasis.{IsBasisOf, FitsNot, IsWideSpans}
 use Rattle.real_form.specs.declared.candidate.Candidate.{Candidate}
 use Rattle.real_form.specs.Candidates.{candidate_vector, candidates_of, ArePowers}
-use Rattle.real_form.specs.Sparse.{AreRepeats}
+use Rattle.real_form.specs.Sparse.{AreCombined}
 use Rattle.real_form.proofs.search.candidate_form.Goals as goal
 
 pub first_form-requires-clause-powers : goal.first_form-requires-clause-powers
@@ -40,9 +40,9 @@ returns-clause-wide c w =
     let e = c.deref.ensures.value ∙ c.in_ok-all.ensures.list ∙ ap candidates_of c.dim.ensures.value in
     subst (λ (cs : List Candidate). IsWideSpans n m D (map (candidate_vector n) cs)) e (c.first_form.ensures.wide w)
 
-pub first_form-requires-clause-repeats : goal.first_form-requires-clause-repeats
-first_form-requires-clause-repeats c =
+pub first_form-requires-clause-combined : goal.first_form-requires-clause-combined
+first_form-requires-clause-combined c =
     let s = c.args.quotient.now in
     let A = length (star_in c.args.induced.now).by in
-    subst (λ (xs : List Bool). AreRepeats (length s.parent.ops) (length s.translations) (dimension_in c.args.induced.now.tables) (size_in c.args.induced.now.tables) A (matrix_in s c.args.induced.now.tables) xs (A * A * length s.translations))
-    (sym c.deref-2.ensures.value) c.in_ok-repeats.ensures
+    subst (λ (xs : List Bool). AreCombined (length s.parent.ops) (length s.translations) (dimension_in c.args.induced.now.tables) (size_in c.args.induced.now.tables) A (matrix_in s c.args.induced.now.tables) xs (A * A * length s.translations))
+    (sym c.deref-2.ensures.value) c.in_ok-combined.ensures

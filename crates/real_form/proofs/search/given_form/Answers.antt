@@ -13,7 +13,7 @@ use Rattle.real_form.specs.Candidates.{tried}
 use Rattle.real_form.specs.Wide.{IsWideOrbit}
 use Rattle.std.specs.Prelude.{Some}
 use Rattle.real_form.proofs.AnswerLemmas.{some-map, none-map, first-one, none-one}
-use Rattle.real_form.specs.Sparse.{AreRepeats}
+use Rattle.real_form.specs.Sparse.{AreCombined}
 use Rattle.real_form.proofs.search.given_form.Goals as goal
 
 pub returns-clause-some : goal.returns-clause-some
@@ -40,9 +40,9 @@ returns-clause-wide c e =
     let D = matrix_in c.args.quotient.now c.args.induced.now.tables in
     first-one (IsWideOrbit n m D) (FitsNot n m D) (vector z24_laws exact_z24 c.args.w.now) (c.span_of.ensures.wide e)
 
-pub span_of-requires-clause-repeats : goal.span_of-requires-clause-repeats
-span_of-requires-clause-repeats c =
+pub span_of-requires-clause-combined : goal.span_of-requires-clause-combined
+span_of-requires-clause-combined c =
     let s = c.args.quotient.now in
     let A = length (star_in c.args.induced.now).by in
-    subst (λ (xs : List Bool). AreRepeats (length s.parent.ops) (length s.translations) (dimension_in c.args.induced.now.tables) (size_in c.args.induced.now.tables) A (matrix_in s c.args.induced.now.tables) xs (A * A * length s.translations))
-    (sym c.deref.ensures.value) c.in_ok-repeats.ensures
+    subst (λ (xs : List Bool). AreCombined (length s.parent.ops) (length s.translations) (dimension_in c.args.induced.now.tables) (size_in c.args.induced.now.tables) A (matrix_in s c.args.induced.now.tables) xs (A * A * length s.translations))
+    (sym c.deref.ensures.value) c.in_ok-combined.ensures

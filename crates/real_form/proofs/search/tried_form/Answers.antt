@@ -36,7 +36,7 @@ returns-then-is_shifted-clause-none c =
     let one : AreEqualBelow n (D 0) (unit_entry z24_laws) = subst (λ (i : ℕ). AreEqualBelow i (D 0) (unit_entry z24_laws)) c.dim-n.ensures.value (c.dim-n.ensures.identity s c.requires.of) in
     let e = c.is_shifted.ensures c.if-is_shifted.true in
     none-at (FitsNot n m D) (candidate_vector n) cs k e.0 (Place 0) (omega (arith, inside)) e.1 c.requires.before
-    (shifted-fits s c.order-order.ensures.quotient n size A refl (omega (arith, some, es)) D rep one c.requires.repeats.phases c.requires.repeats.are_phases (get_or cs e.0 (Place 0)) (get_or cs k (Place 0)) e.2 fits)
+    (shifted-fits s c.order-order.ensures.quotient n size A refl (omega (arith, some, es)) D rep one c.requires.combined.phases c.requires.combined.are_phases (get_or cs e.0 (Place 0)) (get_or cs k (Place 0)) e.2 fits)
 
 pub candidate_row-requires : goal.candidate_row-requires
 candidate_row-requires c = power-at c.args.candidates.now c.args.k (get_or c.args.candidates.now c.args.k (Place 0)) c.requires.inside (at-any c.args.candidates.now c.args.k (Place 0) (get_or c.args.candidates.now c.args.k (Place 0)) c.requires.inside) c.requires.powers

@@ -14,7 +14,7 @@ use Rattle.real_form.specs.Complexes.{z24_parts}
 use Rattle.real_form.specs.Spanned.{HoldsSpan}
 use Rattle.real_form.proofs.SpannedLemmas.{held-passed, held-skip}
 use Rattle.real_form.proofs.Factors.{block-end, some_translation}
-use Rattle.real_form.proofs.RepeatLemmas.{again-block}
+use Rattle.real_form.proofs.CombinedLemmas.{again-block}
 use Rattle.real_form.proofs.BlockLemmas.{block-skipped, next_block}
 use Rattle.real_form.proofs.span.insert_block.Goals as goal
 
@@ -89,7 +89,7 @@ insert_rest-requires-clause-inside c =
     let a = orbit z24_parts n (matrix_in s c.args.induced.now.tables) (vector z24_laws exact_z24 c.args.w.now) in
     let count = length c.translations-count.result.now in
     let e = ap length c.translations-count.ensures in
-    let both = again-block k24_laws a (c.args.r * count) count (c.args.r * T) T (length c.args.repeats.now) c.args.repeats.now c.repeats_from-from.result (ap (λ k. c.args.r * k) e) e c.repeats_from-from.ensures.inside c.repeats_from-from.ensures.again in
+    let both = again-block k24_laws a (c.args.r * count) count (c.args.r * T) T (length c.args.combined.now) c.args.combined.now c.combined_from-from.result (ap (λ k. c.args.r * k) e) e c.combined_from-from.ensures.inside c.combined_from-from.ensures.again in
     both.0
 
 pub insert_rest-requires-clause-again : goal.insert_rest-requires-clause-again
@@ -100,7 +100,7 @@ insert_rest-requires-clause-again c =
     let a = orbit z24_parts n (matrix_in s c.args.induced.now.tables) (vector z24_laws exact_z24 c.args.w.now) in
     let count = length c.translations-count.result.now in
     let e = ap length c.translations-count.ensures in
-    let both = again-block k24_laws a (c.args.r * count) count (c.args.r * T) T (length c.args.repeats.now) c.args.repeats.now c.repeats_from-from.result (ap (λ k. c.args.r * k) e) e c.repeats_from-from.ensures.inside c.repeats_from-from.ensures.again in
+    let both = again-block k24_laws a (c.args.r * count) count (c.args.r * T) T (length c.args.combined.now) c.args.combined.now c.combined_from-from.result (ap (λ k. c.args.r * k) e) e c.combined_from-from.ensures.inside c.combined_from-from.ensures.again in
     both.1
 
 pub returns-in-Ok-No-clause-held : goal.returns-in-Ok-No-clause-held

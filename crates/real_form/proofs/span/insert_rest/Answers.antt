@@ -9,7 +9,7 @@ use Rattle.induce.specs.Tables.{dimension_in, matrix_in}
 use Rattle.real_form.specs.Parts.{orbit}
 use Rattle.real_form.specs.Complexes.{z24_parts}
 use Rattle.real_form.proofs.SpannedLemmas.{held-passed}
-use Rattle.real_form.proofs.RepeatLemmas.{inside-here, again-here}
+use Rattle.real_form.proofs.CombinedLemmas.{inside-here, again-here}
 use Rattle.real_form.proofs.span.insert_rest.Goals as goal
 
 pub returns-then-len-n-clause-passed : goal.returns-then-len-n-clause-passed
@@ -34,11 +34,11 @@ insert_other-requires-clause-behind c = let l = c.loop-q.auto.q in omega (arith,
 pub insert_other-requires-clause-inside : goal.insert_other-requires-clause-inside
 insert_other-requires-clause-inside c =
     let l = c.loop-q.auto.q in
-    inside-here c.args.first c.args.end c.loop-q.q (length c.args.repeats.now) c.args.from (omega (arith, l)) c.loop-q-test.true c.requires.inside
+    inside-here c.args.first c.args.end c.loop-q.q (length c.args.combined.now) c.args.from (omega (arith, l)) c.loop-q-test.true c.requires.inside
 
 pub insert_other-requires-clause-again : goal.insert_other-requires-clause-again
 insert_other-requires-clause-again c =
     let n = (dimension_in c.args.induced.now.tables) in
     let a = orbit z24_parts n (matrix_in c.args.quotient.now c.args.induced.now.tables) (vector z24_laws exact_z24 c.args.w.now) in
     let l = c.loop-q.auto.q in
-    again-here k24_laws a c.args.first c.args.end c.loop-q.q c.args.repeats.now c.args.from (omega (arith, l)) c.loop-q-test.true c.requires.again
+    again-here k24_laws a c.args.first c.args.end c.loop-q.q c.args.combined.now c.args.from (omega (arith, l)) c.loop-q-test.true c.requires.again

@@ -15,8 +15,8 @@ use Rattle.real_form.specs.Complexes.{z24_parts}
 use Rattle.real_form.specs.Sparse.{AreAgain}
 use Rattle.real_form.proofs.Factors.{block-end, some_translation}
 use Rattle.real_form.proofs.SparseLemmas.{arm-end, first-inside}
-use Rattle.real_form.proofs.RepeatLemmas.{again-at, translations_few}
-use Rattle.real_form.proofs.repeats.pair_from.Goals as goal
+use Rattle.real_form.proofs.CombinedLemmas.{again-at, translations_few}
+use Rattle.real_form.proofs.combined.pair_from.Goals as goal
 
 pub overflow_mul-element : goal.overflow_mul-element
 overflow_mul-element c =
@@ -110,7 +110,7 @@ returns-clause-inside c =
     let ea = (c.arms-arms.ensures.value ∙ ap (λ (x : WaveStar). length x.by) c.star.ensures) in
     let e : (c.moved-arm.result * c.arms-arms.result + c.moved-other.result) * length c.translations-count.result.now ≡ (c.moved-arm.result * A + c.moved-other.result) * T =
     λ i. (c.moved-arm.result * ea i + c.moved-other.result) * length (c.translations-count.ensures i) in
-    let k = c.requires.repeats.count in
+    let k = c.requires.combined.count in
     omega (arith, b, e, k)
 
 pub returns-clause-again : goal.returns-clause-again
@@ -132,5 +132,5 @@ returns-clause-again c =
     let ea = (c.arms-arms.ensures.value ∙ ap (λ (x : WaveStar). length x.by) c.star.ensures) in
     let e : (c.moved-arm.result * A + c.moved-other.result) * T ≡ (c.moved-arm.result * c.arms-arms.result + c.moved-other.result) * length c.translations-count.result.now =
     sym (λ i. (c.moved-arm.result * ea i + c.moved-other.result) * length (c.translations-count.ensures i)) in
-    subst (λ (k : ℕ). AreAgain k24_laws (orbit z24_parts n D w) (c.args.r * T) T c.args.repeats.now k) e
-    (again-at R T n m A D w i j c.requires.sparse c.args.repeats.now c.requires.repeats c.args.r c.moved-arm.result c.moved-other.result c.requires.rotation c.moved-arm.ensures.below c.moved-other.ensures.below zi zj)
+    subst (λ (k : ℕ). AreAgain k24_laws (orbit z24_parts n D w) (c.args.r * T) T c.args.combined.now k) e
+    (again-at R T n m A D w i j c.requires.sparse c.args.combined.now c.requires.combined c.args.r c.moved-arm.result c.moved-other.result c.requires.rotation c.moved-arm.ensures.below c.moved-other.ensures.below zi zj)

@@ -11,7 +11,7 @@ ghost use Rattle.induce.specs.Tables.{dimension_in, matrix_in, size_in};
 ghost use Rattle.induce.specs.InducedView.{IsInducedOf, star_in};
 ghost use Rattle.real_form.specs.Parts.{orbit};
 ghost use Rattle.real_form.specs.Complexes.{z24_parts};
-ghost use Rattle.real_form.specs.Sparse.{IsSparse, ArePhases, pair_rows, AreRepeats, AreAgain};
+ghost use Rattle.real_form.specs.Sparse.{IsSparse, ArePhases, pair_rows, AreCombined, AreAgain};
 ghost use Rattle.real_form.specs.Spanned.{HoldsPart};
 
 use crate::phases::{PHASE_WIDTH, insert_phases};
@@ -103,13 +103,13 @@ fn start_pair(form: &mut Echelon<K24>, t: usize)
 
 // Which translations' phases on the arms of a pair are a real combination of those of earlier ones, pair
 // by pair of all arms.
-pub(crate) fn repeats(
+pub(crate) fn combined(
     alloc: Global,
     quotient: &Quotient,
     induced: &Induced,
 ) -> Result<Vec<bool>, NoMemory>
     requires of { IsInducedOf quotient.now induced.now }
-    ensures { IfOk result (λ xs. AreRepeats (length quotient.now.parent.ops) (length quotient.now.translations) (dimension_in induced.now.tables) (size_in induced.now.tables) (length (star_in induced.now).by) (matrix_in quotient.now induced.now.tables) xs.items (length (star_in induced.now).by * length (star_in induced.now).by * length quotient.now.translations)) }
+    ensures { IfOk result (λ xs. AreCombined (length quotient.now.parent.ops) (length quotient.now.translations) (dimension_in induced.now.tables) (size_in induced.now.tables) (length (star_in induced.now).by) (matrix_in quotient.now induced.now.tables) xs.items (length (star_in induced.now).by * length (star_in induced.now).by * length quotient.now.translations)) }
 {
     let phases = phases_of(alloc, quotient, induced)?;
     let _order = quotient.order();
@@ -118,11 +118,11 @@ pub(crate) fn repeats(
     let _size = induced.rep().size();
     let mut form = Echelon::new(alloc, PHASE_WIDTH);
     let mut row = zeros(alloc, PHASE_WIDTH)?;
-    let mut repeats: Vec<bool> = Vec::new(alloc);
+    let mut combined: Vec<bool> = Vec::new(alloc);
     for d in 0..arms * arms * count {
         let pair = d / count;
         start_pair(&mut form, d % count);
-        let combined = is_combined(
+        let mark = is_combined(
             &mut form,
             &mut row,
             &phases,
@@ -131,34 +131,34 @@ pub(crate) fn repeats(
             pair % arms,
             d % count,
         )?;
-        match repeats.push(combined) {
+        match combined.push(mark) {
             Ok(()) => {}
             Err(_) => return Err(NoMemory),
         }
     }
-    Ok(repeats)
+    Ok(combined)
 }
 
 // Where those of the arms stand to which rotation r moves the arms of the places: each image of w under
 // a translation that is marked there is a combination of those under earlier elements.
-pub(crate) fn repeats_from(
+pub(crate) fn combined_from(
     quotient: &Quotient,
     induced: &Induced,
     w: &[Z24],
     places: Option<Places>,
-    repeats: &[bool],
+    combined: &[bool],
     r: usize,
 ) -> Option<usize>
     requires of { IsInducedOf quotient.now induced.now }
     requires length { length w.now ≡ (dimension_in induced.now.tables) }
     requires sparse { IfSome places (λ p. IsSparse z24_laws (dimension_in induced.now.tables) (vector z24_laws exact_z24 w.now) p.first p.last) }
-    requires repeats { AreRepeats (length quotient.now.parent.ops) (length quotient.now.translations) (dimension_in induced.now.tables) (size_in induced.now.tables) (length (star_in induced.now).by) (matrix_in quotient.now induced.now.tables) repeats.now (length (star_in induced.now).by * length (star_in induced.now).by * length quotient.now.translations) }
+    requires combined { AreCombined (length quotient.now.parent.ops) (length quotient.now.translations) (dimension_in induced.now.tables) (size_in induced.now.tables) (length (star_in induced.now).by) (matrix_in quotient.now induced.now.tables) combined.now (length (star_in induced.now).by * length (star_in induced.now).by * length quotient.now.translations) }
     requires rotation { r < length quotient.now.parent.ops }
-    ensures inside { IfSome result (λ k. k + length quotient.now.translations ≤ length repeats.now) }
-    ensures again { IfSome result (λ k. AreAgain k24_laws (orbit z24_parts (dimension_in induced.now.tables) (matrix_in quotient.now induced.now.tables) (vector z24_laws exact_z24 w.now)) (r * length quotient.now.translations) (length quotient.now.translations) repeats.now k) }
+    ensures inside { IfSome result (λ k. k + length quotient.now.translations ≤ length combined.now) }
+    ensures again { IfSome result (λ k. AreAgain k24_laws (orbit z24_parts (dimension_in induced.now.tables) (matrix_in quotient.now induced.now.tables) (vector z24_laws exact_z24 w.now)) (r * length quotient.now.translations) (length quotient.now.translations) combined.now k) }
 {
     match places {
-        Some(places) => Some(pair_from(quotient, induced, w, places, repeats, r)),
+        Some(places) => Some(pair_from(quotient, induced, w, places, combined, r)),
         None => None,
     }
 }
@@ -169,16 +169,16 @@ fn pair_from(
     induced: &Induced,
     w: &[Z24],
     places: Places,
-    repeats: &[bool],
+    combined: &[bool],
     r: usize,
 ) -> usize
     requires of { IsInducedOf quotient.now induced.now }
     requires length { length w.now ≡ (dimension_in induced.now.tables) }
     requires sparse { IsSparse z24_laws (dimension_in induced.now.tables) (vector z24_laws exact_z24 w.now) places.first places.last }
-    requires repeats { AreRepeats (length quotient.now.parent.ops) (length quotient.now.translations) (dimension_in induced.now.tables) (size_in induced.now.tables) (length (star_in induced.now).by) (matrix_in quotient.now induced.now.tables) repeats.now (length (star_in induced.now).by * length (star_in induced.now).by * length quotient.now.translations) }
+    requires combined { AreCombined (length quotient.now.parent.ops) (length quotient.now.translations) (dimension_in induced.now.tables) (size_in induced.now.tables) (length (star_in induced.now).by) (matrix_in quotient.now induced.now.tables) combined.now (length (star_in induced.now).by * length (star_in induced.now).by * length quotient.now.translations) }
     requires rotation { r < length quotient.now.parent.ops }
-    ensures inside { result + length quotient.now.translations ≤ length repeats.now }
-    ensures again { AreAgain k24_laws (orbit z24_parts (dimension_in induced.now.tables) (matrix_in quotient.now induced.now.tables) (vector z24_laws exact_z24 w.now)) (r * length quotient.now.translations) (length quotient.now.translations) repeats.now result }
+    ensures inside { result + length quotient.now.translations ≤ length combined.now }
+    ensures again { AreAgain k24_laws (orbit z24_parts (dimension_in induced.now.tables) (matrix_in quotient.now induced.now.tables) (vector z24_laws exact_z24 w.now)) (r * length quotient.now.translations) (length quotient.now.translations) combined.now result }
 {
     let _order = quotient.order();
     let count = quotient.translations().len();
@@ -191,12 +191,12 @@ fn pair_from(
 }
 
 // Whether a translation is marked.
-pub(crate) fn is_repeat(repeats: &[bool], from: Option<usize>, t: usize) -> bool
-    requires { IfSome from (λ k. k + t < length repeats.now) }
-    ensures { (result ≡ true) → (k : ℕ) × (from ≡ Some k) × (slice_index_or repeats.now (k + t) false ≡ true) }
+pub(crate) fn is_marked(combined: &[bool], from: Option<usize>, t: usize) -> bool
+    requires { IfSome from (λ k. k + t < length combined.now) }
+    ensures { (result ≡ true) → (k : ℕ) × (from ≡ Some k) × (slice_index_or combined.now (k + t) false ≡ true) }
 {
     match from {
-        Some(from) => repeats[from + t],
+        Some(from) => combined[from + t],
         None => false,
     }
 }

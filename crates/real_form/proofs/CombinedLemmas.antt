@@ -22,7 +22,7 @@ use Rattle.super_group.specs.QuotientLaws.{row_below}
 use Rattle.small_rep.specs.SmallRep.{phased}
 use Rattle.real_form.specs.Parts.{parts, lifted, orbit}
 use Rattle.real_form.specs.Complexes.{z24_parts}
-use Rattle.real_form.specs.Sparse.{IsSparse, IsPhase, ArePhases, two, phase_row, pair_rows, AreRepeats, AreAgain}
+use Rattle.real_form.specs.Sparse.{IsSparse, IsPhase, ArePhases, two, phase_row, pair_rows, AreCombined, AreAgain}
 use Rattle.real_form.specs.Spanned.{HoldsSpan, HoldsPart}
 use Rattle.real_form.proofs.OrbitLaws.{plain-member, plain-each}
 use Rattle.real_form.proofs.SpannedLemmas.{held-skip}
@@ -173,15 +173,15 @@ module _ (R T n s A : ℕ) (D : ℕ → ℕ → ℕ → ExactZ24) where
       each : (b : ℕ) → b < t → P (line (u b))
       each b l = subst P (sym (key b (omega (arith, l, lt)))) (plain-member k24_laws a (r * T + t) (r * T + b) (omega (arith, l)))
 
-  pub again-at : (w : ℕ → ExactZ24) (i j : ℕ) → IsSparse z24_laws n w i j → (xs : List Bool) → AreRepeats R T n s A D xs (A * A * T) → (r arm other : ℕ) → r < R → arm < A → other < A →
+  pub again-at : (w : ℕ → ExactZ24) (i j : ℕ) → IsSparse z24_laws n w i j → (xs : List Bool) → AreCombined R T n s A D xs (A * A * T) → (r arm other : ℕ) → r < R → arm < A → other < A →
       ((x : ℕ) → x < n → (x / s ≡ arm → ⊥) → D (r * T) x i ≡ z24_laws.nought) → ((x : ℕ) → x < n → (x / s ≡ other → ⊥) → D (r * T) x j ≡ z24_laws.nought) →
       AreAgain k24_laws (orbit z24_parts n D w) (r * T) T xs ((arm * A + other) * T)
-  again-at w i j h xs reps r arm other lr la lo zi zj t lt m =
+  again-at w i j h xs marks r arm other lr la lo zi zj t lt m =
       let pair : ℕ = arm * A + other in
       let d : ℕ = pair * T + t in
       let lp : pair < A * A = row_below A A arm other la lo in
-      let rows : ℕ → ℕ → ℕ → ℕ → Exact24 = pair_rows reps.phases T in
-      let raw : IsInSpan k24_laws (plain_rows (rows (d / T / A) (d / T % A)) (d % T)) (rows (d / T / A) (d / T % A) (d % T)) = reps.each d (row_below (A * A) T pair t lp lt) m in
+      let rows : ℕ → ℕ → ℕ → ℕ → Exact24 = pair_rows marks.phases T in
+      let raw : IsInSpan k24_laws (plain_rows (rows (d / T / A) (d / T % A)) (d % T)) (rows (d / T / A) (d / T % A) (d % T)) = marks.each d (row_below (A * A) T pair t lp lt) m in
       let ep : d / T ≡ pair = div-mul-add pair T t lt in
       let ea : d / T / A ≡ arm = ap (λ k. k / A) ep ∙ div-mul-add arm A other lo in
       let eo : d / T % A ≡ other = ap (λ k. k % A) ep ∙ mod-mul-add arm A other lo in
@@ -190,9 +190,9 @@ module _ (R T n s A : ℕ) (D : ℕ → ℕ → ℕ → ExactZ24) where
       subst (λ (k : ℕ). IsInSpan k24_laws (plain_rows (rows arm other) k) (rows arm other k)) et
       (subst (λ (k : ℕ). IsInSpan k24_laws (plain_rows (rows arm k) (d % T)) (rows arm k (d % T))) eo
       (subst (λ (k : ℕ). IsInSpan k24_laws (plain_rows (rows k (d / T % A)) (d % T)) (rows k (d / T % A) (d % T))) ea raw)) in
-      image-combined w i j h r arm other t lr lt (λ b. slice_index reps.phases (arm * T + b)) (λ b. slice_index reps.phases (other * T + b))
-      (λ b l. phase-at reps.phases (A * T) reps.are_phases arm b l (row_below A T arm b la l)) (λ b l. phase-at reps.phases (A * T) reps.are_phases other b l (row_below A T other b lo l))
-      (λ b x z l lx lz e. reps.zero r b x z lr l lx lz e) zi zj one
+      image-combined w i j h r arm other t lr lt (λ b. slice_index marks.phases (arm * T + b)) (λ b. slice_index marks.phases (other * T + b))
+      (λ b l. phase-at marks.phases (A * T) marks.are_phases arm b l (row_below A T arm b la l)) (λ b l. phase-at marks.phases (A * T) marks.are_phases other b l (row_below A T other b lo l))
+      (λ b x z l lx lz e. marks.zero r b x z lr l lx lz e) zi zj one
 
   -- lists that are made one by one
   pub phases-none : (xs : List ℕ) → xs ≡ [] → ArePhases R T n s D xs 0
@@ -208,12 +208,12 @@ module _ (R T n s A : ℕ) (D : ℕ → ℕ → ℕ → ExactZ24) where
   abbrev pub IsCombined : List ℕ → ℕ → Type 0
   IsCombined ps d = IsInSpan k24_laws (plain_rows (pair_rows ps T (d / T / A) (d / T % A)) (d % T)) (pair_rows ps T (d / T / A) (d / T % A) (d % T))
 
-  pub repeats-none : (xs : List Bool) (ps : List ℕ) → xs ≡ [] → ArePhases R T n s D ps (A * T) → ((r t x y : ℕ) → r < R → t < T → x < n → y < n → D (r * T) x y ≡ z24_laws.nought → D (r * T + t) x y ≡ z24_laws.nought) →
-      (k : AreRepeats R T n s A D xs 0) × (k.phases ≡ ps)
-  repeats-none xs ps e h z = (record { phases = ps; are_phases = h; count = ap length e; each = λ d l. absurd (omega (arith, l)); zero = z }, refl)
+  pub combined-none : (xs : List Bool) (ps : List ℕ) → xs ≡ [] → ArePhases R T n s D ps (A * T) → ((r t x y : ℕ) → r < R → t < T → x < n → y < n → D (r * T) x y ≡ z24_laws.nought → D (r * T + t) x y ≡ z24_laws.nought) →
+      (k : AreCombined R T n s A D xs 0) × (k.phases ≡ ps)
+  combined-none xs ps e h z = (record { phases = ps; are_phases = h; count = ap length e; each = λ d l. absurd (omega (arith, l)); zero = z }, refl)
 
-  pub repeats-more : (xs ys : List Bool) (x : Bool) (d : ℕ) → ys ≡ xs ++ x ∷ [] → (h : AreRepeats R T n s A D xs d) → (x ≡ true → IsCombined h.phases d) → (k : AreRepeats R T n s A D ys (d + 1)) × (k.phases ≡ h.phases)
-  repeats-more xs ys x d e h p = (
+  pub combined-more : (xs ys : List Bool) (x : Bool) (d : ℕ) → ys ≡ xs ++ x ∷ [] → (h : AreCombined R T n s A D xs d) → (x ≡ true → IsCombined h.phases d) → (k : AreCombined R T n s A D ys (d + 1)) × (k.phases ≡ h.phases)
+  combined-more xs ys x d e h p = (
     record {
       phases = h.phases;
       are_phases = h.are_phases;

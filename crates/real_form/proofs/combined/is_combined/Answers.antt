@@ -2,9 +2,9 @@ use Rattle.std.proofs.Common.{◌+◌}
 use Rattle.cyclo24.specs.K24.{exact24}
 use Rattle.cyclo24.specs.ExactK24.{k24}
 use Rattle.real_form.specs.Sparse.{pair_rows}
-use Rattle.real_form.proofs.RepeatLemmas.{pair-again}
+use Rattle.real_form.proofs.CombinedLemmas.{pair-again}
 use Rattle.real_form.proofs.SpannedLemmas.{part-empty, part-skip, part-next, part-member}
-use Rattle.real_form.proofs.repeats.is_combined.Goals as goal
+use Rattle.real_form.proofs.combined.is_combined.Goals as goal
 
 pub returns-then-is_repeated-clause-held : goal.returns-then-is_repeated-clause-held
 returns-then-is_repeated-clause-held c =

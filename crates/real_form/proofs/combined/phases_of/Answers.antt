@@ -4,8 +4,8 @@ use Rattle.kstar.specs.Star.{WaveStar}
 use Rattle.induce.specs.Tables.{dimension_in, matrix_in, size_in}
 use Rattle.induce.specs.InducedView.{star_in}
 use Rattle.real_form.specs.Sparse.{IsPhase, ArePhases}
-use Rattle.real_form.proofs.RepeatLemmas.{phases-none, phases-more, row_of, column_of, translations_few}
-use Rattle.real_form.proofs.repeats.phases_of.Goals as goal
+use Rattle.real_form.proofs.CombinedLemmas.{phases-none, phases-more, row_of, column_of, translations_few}
+use Rattle.real_form.proofs.combined.phases_of.Goals as goal
 
 pub overflow_mul-d-end : goal.overflow_mul-d-end
 overflow_mul-d-end c =

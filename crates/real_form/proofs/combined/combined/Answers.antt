@@ -9,12 +9,12 @@ use Rattle.small_rep.specs.RepCheck.{CheckedView}
 use Rattle.kstar.specs.Star.{WaveStar}
 use Rattle.induce.specs.Tables.{dimension_in, matrix_in, size_in}
 use Rattle.induce.specs.InducedView.{star_in}
-use Rattle.real_form.specs.Sparse.{pair_rows, AreRepeats}
+use Rattle.real_form.specs.Sparse.{pair_rows, AreCombined}
 use Rattle.real_form.specs.Spanned.{HoldsPart}
 use Rattle.real_form.proofs.Factors.{some_translation}
 use Rattle.real_form.proofs.SpannedLemmas.{written-length}
-use Rattle.real_form.proofs.RepeatLemmas.{repeats-none, repeats-more, pair_rows-by, part-following, first-column, zero-kept, column_of, pair-inside, translations_few}
-use Rattle.real_form.proofs.repeats.repeats.Goals as goal
+use Rattle.real_form.proofs.CombinedLemmas.{combined-none, combined-more, pair_rows-by, part-following, first-column, zero-kept, column_of, pair-inside, translations_few}
+use Rattle.real_form.proofs.combined.combined.Goals as goal
 
 pub overflow_mul-d-end : goal.overflow_mul-d-end
 overflow_mul-d-end c = let m : c.arms-arms.result * c.arms-arms.result ≤ 48 * 48 = mul-le-mul c.arms-arms.ensures.few c.arms-arms.ensures.few in search rules
@@ -41,7 +41,7 @@ loop-d-init c =
     let some = c.size-size.ensures.some in
     let es = (c.size-size.ensures.value ∙ ap (λ (x : CheckedView). x.rep.size) c.rep.ensures) in
     let ps = c.in_ok-phases.phases.items in (
-      repeats-none R T n m A D c.new-repeats.result.items ps c.new-repeats.ensures.items c.in_ok-phases.ensures (zero-kept R T n m A D ps c.in_ok-phases.ensures refl (omega (arith, some, es))),
+      combined-none R T n m A D c.new-combined.result.items ps c.new-combined.ensures.items c.in_ok-phases.ensures (zero-kept R T n m A D ps c.in_ok-phases.ensures refl (omega (arith, some, es))),
       λ l. absurd (first-column T l),
       c.in_ok-row.ensures.len,
     )
@@ -121,9 +121,9 @@ loop-d-preserved c =
     let ed = c.deref.ensures.value in
     let d = c.loop-d.d in
     let h = c.loop-d.invariant.0 in
-    let held = pair_rows-by c.deref.result.now ps count T c.arms-arms.result A d ed et ea (λ a t. HoldsPart k24_laws exact24 4 a (t + 1) c.is_combined.new.form) c.in_ok-combined.ensures.held in
-    let next = repeats-more R T n m A D c.loop-d.repeats.items c.push.new.self.items c.in_ok-combined.combined d c.in-Ok.ensures.items h.0
-    (λ e. pair_rows-by c.deref.result.now h.0.phases count T c.arms-arms.result A d (ed ∙ sym h.1) et ea (λ a t. IsInSpan k24_laws (plain_rows a t) (a t)) (c.in_ok-combined.ensures.combined e)) in (
+    let held = pair_rows-by c.deref.result.now ps count T c.arms-arms.result A d ed et ea (λ a t. HoldsPart k24_laws exact24 4 a (t + 1) c.is_combined.new.form) c.in_ok-mark.ensures.held in
+    let next = combined-more R T n m A D c.loop-d.combined.items c.push.new.self.items c.in_ok-mark.mark d c.in-Ok.ensures.items h.0
+    (λ e. pair_rows-by c.deref.result.now h.0.phases count T c.arms-arms.result A d (ed ∙ sym h.1) et ea (λ a t. IsInSpan k24_laws (plain_rows a t) (a t)) (c.in_ok-mark.ensures.combined e)) in (
       (next.0, next.1 ∙ h.1),
       part-following T A d ps c.is_combined.new.form (some_translation s c.order-order.ensures.quotient) held,
       written-length c.loop-d.row.items c.is_combined.new.row c.loop-d.row.len 4 (c.is_combined.auto.row ∙ ap length c.deref_mut.ensures.value) c.loop-d.row.ok.0 c.loop-d.invariant.2,
@@ -139,4 +139,4 @@ returns c =
     let A = length (star_in c.args.induced.now).by in
     let D = matrix_in s c.args.induced.now.tables in
     let e : c.loop-d.d ≡ A * A * T = search rules in
-    subst (AreRepeats R T n m A D c.loop-d.repeats.items) e c.loop-d.invariant.0.0
+    subst (AreCombined R T n m A D c.loop-d.combined.items) e c.loop-d.invariant.0.0
