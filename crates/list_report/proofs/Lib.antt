@@ -1,0 +1,16 @@
+pub mod ActionLemmas
+pub mod ChoiceLemmas
+pub mod ClosingLemmas
+pub mod FactorLemmas
+pub mod FormFoundLemmas
+pub mod FormTextLemmas
+pub mod KeptLemmas
+pub mod LetterLemmas
+pub mod ListReportLemmas
+pub mod ListUniqueLemmas
+pub mod ListingLemmas
+pub mod PageJoinLemmas
+pub mod PieceLemmas
+pub mod RealFormLemmas
+pub mod RealisingLemmas
+pub mod TermLemmas

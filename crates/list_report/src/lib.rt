@@ -1,0 +1,28 @@
+//! What `list` does behind the steps that all jobs share, and its report.
+//!
+//! An irrep is chosen (`place_of`), its real form found (`form_of`), the fixed subspaces of that closed
+//! (`closed`), and the directions of their classes listed (`directions`). Conventions: an order
+//! parameter is a column; elements are numbered from 0, directions from 1. The layer above uses
+//! `list_found` and `listed_text`.
+#![tactic(auto)]
+
+mod choice;
+mod closing;
+mod factor;
+mod form_text;
+mod laws;
+mod letters;
+mod listed;
+mod listing;
+mod realising;
+mod report;
+mod stabiliser_text;
+mod sums;
+
+pub use choice::place_of;
+pub use closing::{closed, directions};
+pub use laws::{law_of_kept_lines, law_of_list, law_of_listing_steps, law_of_report_pages};
+pub use listed::{FormedIrrep, ListedIrrep};
+pub use listing::list_found;
+pub use realising::form_of;
+pub use report::listed_text;
