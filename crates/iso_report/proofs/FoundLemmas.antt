@@ -1,24 +1,24 @@
 -- What is found behind the steps that all jobs share, by the program's values.
 use Rattle.std.proofs.Common.{◌≡◌, refl, sym, subst, map, ℕ, Bool, true, false, List, Option, Result, IfOk}
 use Rattle.std.proofs.lemmas.Bool.{true≢false}
-use Rattle.iso_report.specs.declared.context.InducedFile.{InducedFile}
+use Rattle.report_steps.specs.declared.context.InducedFile.{InducedFile}
 use Rattle.iso_report.specs.declared.found.Found.{Found}
 use Rattle.iso_report.specs.declared.found.Found.TheVariants as found
 use Rattle.iso_report.specs.declared.job.Job.{Job}
 use Rattle.iso_report.specs.declared.job.Job.TheVariants as job
-use Rattle.iso_report.specs.declared.step.Step.{Step}
-use Rattle.iso_report.specs.declared.step.Step.TheVariants as step
-use Rattle.iso_report.specs.Contexts.{Divided}
-use Rattle.iso_report.specs.Finding.{Finding}
+use Rattle.report_steps.specs.declared.step.Step.{Step}
+use Rattle.report_steps.specs.declared.step.Step.TheVariants as step
+use Rattle.report_steps.specs.Contexts.{Divided}
+use Rattle.report_steps.specs.Finding.{Finding}
 use Rattle.iso_report.specs.Jobs.{is_built}
-use Rattle.iso_report.specs.Listings.{IsListFound}
-use Rattle.iso_report.proofs.StepLemmas.{ok-map}
+use Rattle.list_report.specs.Listings.{IsListFound}
+use Rattle.std.proofs.lemmas.Result.{IfOk-weaker}
 use Rattle.iso_report.specs.Found.{Finds, finding_of}
-use Rattle.iso_report.specs.Held.{IsInducedHeld, facts_in}
-use Rattle.iso_report.specs.HeldFiles.{AreInducedHeld}
-use Rattle.iso_report.specs.IrrepReport.{AreFactsOf}
+use Rattle.report_steps.specs.Held.{IsInducedHeld, facts_in}
+use Rattle.report_steps.specs.HeldFiles.{AreInducedHeld}
+use Rattle.report_steps.specs.IrrepReport.{AreFactsOf}
 use Rattle.iso_report.specs.Outcome.{IsFound}
-use Rattle.iso_report.proofs.EachLemmas.{each-map}
+use Rattle.report_steps.specs.EachLaws.{each-map}
 
 -- a checked file
 pub checked-found : (j : Job) (file : InducedFile) → j ≡ job.Check → AreInducedHeld file → Finds (IsFound j file.divided) (step.Passed (found.Checked file))
@@ -39,4 +39,4 @@ pub list-job-found : {E : Type 0} (j : Job) (wanted : Option (List ℕ)) (after 
 list-job-found j wanted after count tally d e b r h =
     let built = subst (λ (x : Job). is_built x ≡ true) e b in
     subst (λ (x : Job). IfOk r (Finds (IsFound x d))) (sym e)
-    (ok-map (Finds (IsListFound wanted after count d)) (Finds (IsFound (job.List wanted after count tally) d)) (λ st w. (list-job tally wanted after count d (finding_of st) built w.0, w.1)) r h)
+    (IfOk-weaker r (Finds (IsListFound wanted after count d)) (Finds (IsFound (job.List wanted after count tally) d)) (λ st w. (list-job tally wanted after count d (finding_of st) built w.0, w.1)) h)

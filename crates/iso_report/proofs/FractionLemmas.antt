@@ -13,7 +13,7 @@ use Rattle.kstar.specs.Fraction.{part_of, IsLowestRow}
 use Rattle.space_ops.specs.Matrix.{Vector}
 use Rattle.space_ops.specs.OpText.{common_with_twelve, fraction_text}
 use Rattle.std.specs.Prelude.{◌++◌, codes}
-use Rattle.iso_report.specs.Fractions.{minus_text, frac_text, edges_text, row_text}
+use Rattle.report_steps.specs.Fractions.{minus_text, frac_text, edges_text, row_text}
 
 if-true : (b : Bool) (x y : ℕ) → b ≡ true → (if b then x else y) ≡ x
 if-true true x y e = refl

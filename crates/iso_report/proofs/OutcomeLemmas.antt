@@ -1,85 +1,65 @@
 -- A file's bytes have one outcome.
-use Rattle.std.proofs.Common.{ap, ◌∙◌, sym, subst, List, true, false}
-use Rattle.iso_text.specs.FileLaws.{FilesAreUnique, CausesAreUnique, FilesHaveNoCause}
-use Rattle.iso_report.specs.declared.job.Job.{Job}
+use Rattle.std.proofs.Common.{◌≡◌, ap, ◌∙◌, sym, subst, ℕ, List, Option, true, false}
 use Rattle.iso_text.specs.FileValue.{File}
-use Rattle.super_group.specs.Quotient.{IsQuotient}
+use Rattle.iso_text.specs.declared.sections.IrrepText.{IrrepText}
+use Rattle.super_group.specs.Quotient.{SupercellGroup, IsQuotient}
+use Rattle.iso_report.specs.declared.job.Job.{Job}
 use Rattle.iso_report.specs.declared.job.Job.TheVariants as job
 use Rattle.iso_report.specs.Check.{check_text}
-use Rattle.iso_report.specs.Contexts.{Parented, Divided}
-use Rattle.iso_report.specs.Finding.{report}
-use Rattle.iso_report.specs.IrrepReport.{Facts, AreFactsOf}
-use Rattle.iso_report.specs.Irreps.{HasPhase, RefusesPhase, HasRep, RefusesRep, HasInduced, RefusesInduced}
 use Rattle.iso_report.specs.Outcome.{IsChecked, IsFound, AfterReps, AfterOrder, AfterPhases, AfterParent, AfterText}
 use Rattle.iso_report.specs.OutcomeLaws.{HasOneOutcome}
-use Rattle.iso_report.specs.Stages.{RefusesText, IsRead, RefusesParent, IsParented, RefusesPhases, HavePhases, RefusesOrder, IsDivided, RefusesReps, AreWideReps, HaveReps, RefusesDimensions, AreWideInduced, HaveInduced}
-use Rattle.iso_report.specs.StepLaws.{IsSingleAt, FindsOneAt, After-single-at}
-use Rattle.iso_report.specs.Steps.{never}
-use Rattle.iso_report.proofs.ListUniqueLemmas.{ListingsAreUnique, list-found}
-use Rattle.iso_report.proofs.EachLemmas.{each-same, first-one, first-none}
-use Rattle.iso_report.proofs.IrrepUniqueLemmas.{phase-one, phase-apart, rep-one, rep-apart, induced-one, induced-apart, facts-one}
-use Rattle.iso_report.proofs.UniqueLemmas.{SymbolsAreUnique, ListsAreUnique, text-single, parent-single, order-single, single-at}
+use Rattle.report_steps.specs.Contexts.{Parented, Divided}
+use Rattle.report_steps.specs.Finding.{report}
+use Rattle.report_steps.specs.IrrepReport.{Facts, AreFacts}
+use Rattle.report_steps.specs.Stages.{RefusesText, IsRead, RefusesParent, IsParented, RefusesPhases, HavePhases, RefusesOrder, IsDivided, RefusesReps, AreWideReps, HaveReps, RefusesDimensions, AreWideInduced, HaveInduced}
+use Rattle.report_steps.specs.StepLaws.{IsSingle, IsSingleAt, single-at, FindsOneAt, After-single-at}
+use Rattle.report_steps.specs.Steps.{never}
+use Rattle.list_report.specs.Listings.{IsListFound}
 
--- ---- the steps over irreps
+-- what is known of each step, and of what is found behind them
+pub record AreSettled : Type 0 where
+  pub text : IsSingle RefusesText IsRead
+  pub parent : IsSingle RefusesParent IsParented
+  pub phases : (p : Parented) → IsSingleAt RefusesPhases HavePhases p
+  pub order : IsSingle RefusesOrder IsDivided
+  pub reps : (d : Divided) → IsQuotient d.quotient → IsSingleAt RefusesReps HaveReps d
+  pub dimensions : (d : Divided) → IsQuotient d.quotient → IsSingleAt RefusesDimensions HaveInduced d
+  pub facts : (q : SupercellGroup) → IsQuotient q → (irreps : List IrrepText) (fs gs : List Facts) → AreFacts q irreps fs → AreFacts q irreps gs → fs ≡ gs
+  pub list : (d : Divided) → IsQuotient d.quotient → (wanted : Option (List ℕ)) (after : ℕ) (count : Option ℕ) → FindsOneAt (IsListFound wanted after count) d
 
-phases-single : (p : Parented) → IsSingleAt RefusesPhases HavePhases p
-phases-single p = record {
-  refusal = first-one (HasPhase p.parent) (RefusesPhase p.parent) (phase-one p.parent) (phase-apart p.parent) p.file.irreps;
-  value = λ a b x y. x.1 ∙ sym y.1;
-  apart = λ r b x y. first-none (HasPhase p.parent) (RefusesPhase p.parent) (phase-apart p.parent) p.file.irreps r y.0 x;
-}
+module _ (s : AreSettled) (j : Job) where
+  module _ (d : Divided) (h : IsQuotient d.quotient) where
+    checked-one : FindsOneAt IsChecked d
+    checked-one f g (facts, a, e) (other, b, k) u v = e ∙ ap (λ (fs : List Facts). report (check_text d fs)) (s.facts d.quotient h d.file.irreps facts other a b) ∙ sym k
 
-module _ (d : Divided) (h : IsQuotient d.quotient) where
-  reps-single : IsSingleAt RefusesReps HaveReps d
-  reps-single = record {
-    refusal = first-one (HasRep d.quotient.parent) (RefusesRep d.quotient.parent) (rep-one d.quotient.parent h.parent) (rep-apart d.quotient.parent h.parent) d.file.irreps;
-    value = λ a b x y. x.1 ∙ sym y.1;
-    apart = λ r b x y. first-none (HasRep d.quotient.parent) (RefusesRep d.quotient.parent) (rep-apart d.quotient.parent h.parent) d.file.irreps r y.0 x;
-  }
+    job-found : (i : Job) → FindsOneAt (IsFound i) d
+    job-found job.Check f g a b u v = checked-one f g a b u v
+    job-found (job.List wanted after count false) f g a b u v = s.list d h wanted after count f g a b u v
+    job-found (job.List wanted after count true) f g a b u v = absurd a
+    job-found (job.Modes direction) f g a b u v = absurd a
+    job-found job.Amps f g a b u v = absurd a
+    job-found (job.Demo number) f g a b u v = absurd a
 
-  dimensions-single : IsSingleAt RefusesDimensions HaveInduced d
-  dimensions-single = record {
-    refusal = first-one (HasInduced d.quotient) (RefusesInduced d.quotient) (induced-one d.quotient h) (induced-apart d.quotient h) d.file.irreps;
-    value = λ a b x y. x.1 ∙ sym y.1;
-    apart = λ r b x y. first-none (HasInduced d.quotient) (RefusesInduced d.quotient) (induced-apart d.quotient h) d.file.irreps r y.0 x;
-  }
+    induced-found : FindsOneAt (AfterReps j) d
+    induced-found =
+        After-single-at RefusesDimensions AreWideInduced HaveInduced (IsFound j) d (s.dimensions d h)
+        (λ e w. let P : Divided → Type 0 = FindsOneAt (IsFound j) in subst P (sym w.1) (job-found j))
 
-  -- ---- what is found behind each step
+    reps-found : FindsOneAt (AfterOrder j) d
+    reps-found =
+        After-single-at RefusesReps AreWideReps HaveReps (AfterReps j) d (s.reps d h)
+        (λ e w. let P : Divided → Type 0 = FindsOneAt (AfterReps j) in subst P (sym w.1) induced-found)
 
-  checked-one : FindsOneAt IsChecked d
-  checked-one f g (facts, a, e) (other, b, k) u v = e ∙ ap (λ (fs : List Facts). report (check_text d fs)) (each-same (AreFactsOf d.quotient) d.file.irreps facts other (facts-one d.quotient h) a b) ∙ sym k
-
-  found-one : ListingsAreUnique → (j : Job) → FindsOneAt (IsFound j) d
-  found-one listings job.Check f g a b u v = checked-one f g a b u v
-  found-one listings (job.List wanted after count false) f g a b u v = list-found listings d h wanted after count f g a b u v
-  found-one listings (job.List wanted after count true) f g a b u v = absurd a
-  found-one listings (job.Modes direction) f g a b u v = absurd a
-  found-one listings job.Amps f g a b u v = absurd a
-  found-one listings (job.Demo number) f g a b u v = absurd a
-
-  induced-found : ListingsAreUnique → (j : Job) → FindsOneAt (AfterReps j) d
-  induced-found listings j =
-      After-single-at RefusesDimensions AreWideInduced HaveInduced (IsFound j) d dimensions-single
-      (λ e w. let P : Divided → Type 0 = FindsOneAt (IsFound j) in subst P (sym w.1) (found-one listings j))
-
-  reps-found : ListingsAreUnique → (j : Job) → FindsOneAt (AfterOrder j) d
-  reps-found listings j =
-      After-single-at RefusesReps AreWideReps HaveReps (AfterReps j) d reps-single
-      (λ e w. let P : Divided → Type 0 = FindsOneAt (AfterReps j) in subst P (sym w.1) (induced-found listings j))
-
-module _ (listings : ListingsAreUnique) (j : Job) where
   order-found : (p : Parented) → FindsOneAt (AfterPhases j) p
-  order-found p = After-single-at RefusesOrder never IsDivided (AfterOrder j) p (single-at RefusesOrder IsDivided order-single p) (λ d w. reps-found d w.quotient listings j)
+  order-found p = After-single-at RefusesOrder never IsDivided (AfterOrder j) p (single-at RefusesOrder IsDivided s.order p) (λ d w. reps-found d w.quotient)
 
   phases-found : (p : Parented) → FindsOneAt (AfterParent j) p
   phases-found p =
-      After-single-at RefusesPhases never HavePhases (AfterPhases j) p (phases-single p)
+      After-single-at RefusesPhases never HavePhases (AfterPhases j) p (s.phases p)
       (λ q w. let P : Parented → Type 0 = FindsOneAt (AfterPhases j) in subst P (sym w.1) (order-found p))
 
-  parent-found : SymbolsAreUnique → ListsAreUnique → (file : File) → FindsOneAt (AfterText j) file
-  parent-found symbols lists file =
-      After-single-at RefusesParent never IsParented (AfterParent j) file (single-at RefusesParent IsParented (parent-single symbols lists) file) (λ p w. phases-found p)
+  parent-found : (file : File) → FindsOneAt (AfterText j) file
+  parent-found file = After-single-at RefusesParent never IsParented (AfterParent j) file (single-at RefusesParent IsParented s.parent file) (λ p w. phases-found p)
 
-pub outcome-one : FilesAreUnique → CausesAreUnique → FilesHaveNoCause → SymbolsAreUnique → ListsAreUnique → ListingsAreUnique → (j : Job) → HasOneOutcome j
-outcome-one files causes apart symbols lists listings j =
-    λ bytes. After-single-at RefusesText never IsRead (AfterText j) bytes (single-at RefusesText IsRead (text-single files causes apart) bytes) (λ file w. parent-found listings j symbols lists file)
+  pub outcome-one : HasOneOutcome j
+  outcome-one bytes = After-single-at RefusesText never IsRead (AfterText j) bytes (single-at RefusesText IsRead s.text bytes) (λ file w. parent-found file)

@@ -3,8 +3,8 @@ use Rattle.std.proofs.Common.{◌≡◌, sym, ap, ◌∙◌, ℕ, zero, suc, ◌
 use Rattle.std.proofs.lemmas.List.{append-nil}
 use Rattle.iso_text.specs.declared.sections.IrrepText.{IrrepText}
 use Rattle.space_ops.specs.Group.{Parent}
-use Rattle.iso_report.specs.IrrepReport.{Facts, irrep_text, irreps_text}
-use Rattle.iso_report.specs.IrrepSteps.{Each}
+use Rattle.report_steps.specs.IrrepReport.{Facts, irrep_text, irreps_text}
+use Rattle.report_steps.specs.IrrepSteps.{Each}
 
 irreps-push : {B : Type 0} (p : Parent) (g : B → Facts) (R : IrrepText → B → Type 0) (xs : List IrrepText) (ys : List B) (i : ℕ) (x : IrrepText) (y : B)
     → i < length xs → Each R xs ys

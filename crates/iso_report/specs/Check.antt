@@ -5,18 +5,13 @@
 -- check_text d facts: the report on a parent group, its quotient and the irreps with their facts
 use Rattle.std.specs.Prelude.{ℕ, List, [], ◌∷◌, ◌++◌, length, flat_map, codes, decimal}
 use Rattle.space_ops.specs.declared.lattice.Lattice.{Lattice}
-use Rattle.space_ops.specs.declared.op.Op.{Op}
 use Rattle.space_ops.specs.Lattice.{centrings_of, letter_of}
-use Rattle.space_ops.specs.OpText.{text_of}
 use Rattle.super_group.specs.Supercell.{multiplier}
 use Rattle.super_group.specs.Quotient.{order_of}
 use Rattle.iso_text.specs.Lines.{line}
-use Rattle.iso_report.specs.Contexts.{Divided}
-use Rattle.iso_report.specs.IrrepReport.{Facts, irreps_text}
-
--- the line of an operation
-abbrev pub listed_line : Op → List ℕ
-listed_line op = line (codes "op " ++ text_of op) []
+use Rattle.report_steps.specs.Contexts.{Divided}
+use Rattle.report_steps.specs.OpLines.{listed_line}
+use Rattle.report_steps.specs.IrrepReport.{Facts, irreps_text}
 
 -- the line of the lattice
 abbrev pub lattice_line : Lattice → ℕ → ℕ → List ℕ

@@ -6,9 +6,9 @@ use Rattle.std.specs.Prelude.{◌⊎◌, ℕ, List, [], Option}
 use Rattle.iso_text.specs.Counts.{HasRisen}
 use Rattle.iso_text.specs.Streams.{GrownBy, GrownByPrefix}
 use Rattle.iso_report.specs.declared.job.Job.{Job}
-use Rattle.iso_report.specs.declared.refusal.RunError.{RunError}
-use Rattle.iso_report.specs.declared.refusal.RunError.TheVariants as run_error
-use Rattle.iso_report.specs.Finding.{report, refused}
+use Rattle.iso_report.specs.declared.run_error.RunError.{RunError}
+use Rattle.iso_report.specs.declared.run_error.RunError.TheVariants as run_error
+use Rattle.report_steps.specs.Finding.{report, refused}
 use Rattle.iso_report.specs.Outcome.{IsOutcome}
 
 -- a sink before and after a call: its bytes, where it tells them, and its count of faults

@@ -8,12 +8,12 @@ use Rattle.iso_text.specs.FileValue.{File}
 use Rattle.iso_report.specs.declared.job.Job.{Job}
 use Rattle.iso_report.specs.declared.job.Job.TheVariants as job
 use Rattle.iso_report.specs.Check.{check_text}
-use Rattle.iso_report.specs.Contexts.{Parented, Divided}
-use Rattle.iso_report.specs.Listings.{IsListFound}
-use Rattle.iso_report.specs.IrrepReport.{Facts, AreFacts}
-use Rattle.iso_report.specs.Stages.{RefusesText, IsRead, RefusesParent, IsParented, RefusesPhases, HavePhases, RefusesOrder, IsDivided, RefusesReps, AreWideReps, HaveReps, RefusesDimensions, AreWideInduced, HaveInduced}
-use Rattle.iso_report.specs.Steps.{After, never}
-pub use Rattle.iso_report.specs.Finding.{Finding, report, refused}
+use Rattle.report_steps.specs.Contexts.{Parented, Divided}
+use Rattle.list_report.specs.Listings.{IsListFound}
+use Rattle.report_steps.specs.IrrepReport.{Facts, AreFacts}
+use Rattle.report_steps.specs.Stages.{RefusesText, IsRead, RefusesParent, IsParented, RefusesPhases, HavePhases, RefusesOrder, IsDivided, RefusesReps, AreWideReps, HaveReps, RefusesDimensions, AreWideInduced, HaveInduced}
+use Rattle.report_steps.specs.Steps.{After, never}
+pub use Rattle.report_steps.specs.Finding.{Finding, report, refused}
 
 -- the report of the parent group, its quotient and the irreps
 abbrev pub IsChecked : Divided → Finding → Type 0

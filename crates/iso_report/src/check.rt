@@ -1,17 +1,17 @@
 // The report of `check`.
 ghost use Rattle.std.specs.Prelude.{◌≡◌, ◌++◌, [], IfOk, OnOk, length, map, flat_map, codes};
 ghost use Rattle.space_ops.specs.Lattice.{centrings_of};
-ghost use Rattle.space_ops.specs.OpText.{text_of};
 ghost use Rattle.super_group.specs.Quotient.{order_of};
-ghost use Rattle.iso_report.specs.Check.{first_line, lattice_line, listed_line, supercell_line, check_text};
-ghost use Rattle.iso_report.specs.Held.{facts_in};
-ghost use Rattle.iso_report.specs.HeldFiles.{AreInducedHeld};
+ghost use Rattle.iso_report.specs.Check.{first_line, lattice_line, supercell_line, check_text};
+ghost use Rattle.report_steps.specs.OpLines.{listed_line};
+ghost use Rattle.report_steps.specs.Held.{facts_in};
+ghost use Rattle.report_steps.specs.HeldFiles.{AreInducedHeld};
 ghost use Rattle.iso_text.specs.Lines.{line};
 
-use crate::context::InducedFile;
 use crate::irrep_report::irreps_text;
 use iso_text::{NoMemory, Text};
-use space_ops::{Group, Lattice, Op};
+use report_steps::{InducedFile, op_line};
+use space_ops::{Group, Lattice};
 use std::alloc::Global;
 use super_group::Quotient;
 
@@ -54,17 +54,6 @@ fn supercell_text(alloc: Global, d: [u32; 3], order: usize) -> Result<Text, NoMe
     text.push_number(d[2] as u64)?;
     text.push(b" order ")?;
     text.push_number(order as u64)?;
-    text.push(b"\n")?;
-    Ok(text)
-}
-
-/// The line of an operation.
-pub fn op_line(alloc: Global, op: Op) -> Result<Text, NoMemory>
-    ensures { IfOk result (λ text. text ≡ line (codes "op " ++ text_of op) []) }
-{
-    let mut text = Text::new(alloc);
-    text.push(b"op ")?;
-    text.push(op.print(alloc)?.as_slice())?;
     text.push(b"\n")?;
     Ok(text)
 }

@@ -1,13 +1,13 @@
 // What is found for a file's bytes.
 ghost use Rattle.std.specs.Prelude.{◌≡◌, IfOk};
-ghost use Rattle.iso_report.specs.Found.{text_of, IsFoundHeld};
-ghost use Rattle.iso_report.specs.HeldListings.{IsListingHeld};
+ghost use Rattle.iso_report.specs.Found.{text_of, IsFoundHeld, Finds};
+ghost use Rattle.report_steps.specs.HeldFiles.{AreInducedHeld};
+ghost use Rattle.list_report.specs.Listings.{IsListFound};
 
 use crate::check::check_report;
-use crate::context::InducedFile;
-use crate::list_report::listing_report;
-use crate::listed::ListedIrrep;
-use iso_text::{NoMemory, Text};
+use iso_text::{Name, NoMemory, Text};
+use list_report::{ListedIrrep, list_found, listed_text};
+use report_steps::{InducedFile, Step};
 use std::alloc::Global;
 
 /// What a report tells.
@@ -19,21 +19,22 @@ pub enum Found {
     Listed(ListedIrrep),
 }
 
-// The bytes of the report of a listing.
-fn listed_text(alloc: Global, listed: &ListedIrrep) -> Result<Text, NoMemory>
-    requires { IsListingHeld listed.now }
-    ensures { IfOk result (λ text. text ≡ text_of (Found.Listed listed.now)) }
+/// The listing of the irrep of a name, or of the first of the file where none is named; or why there
+/// is none.
+pub fn found_listing(
+    alloc: Global,
+    file: InducedFile,
+    wanted: Option<Name>,
+    after: u64,
+    count: Option<u64>,
+) -> Result<Step<Found>, NoMemory>
+    requires { AreInducedHeld file }
+    ensures { IfOk result (Finds (IsListFound wanted after count file.divided)) }
 {
-    listing_report(
-        alloc,
-        listed.format,
-        &listed.name,
-        &listed.quotient,
-        listed.dim,
-        &listed.listing,
-        listed.after,
-        listed.count,
-    )
+    match list_found(alloc, file, wanted, after, count)? {
+        Step::Passed(listed) => Ok(Step::Passed(Found::Listed(listed))),
+        Step::Refused(refusal) => Ok(Step::Refused(refusal)),
+    }
 }
 
 /// The bytes of the report.

@@ -4,22 +4,17 @@ ghost use Rattle.iso_report.specs.Endings.{RunIsDone, RunFails, change};
 ghost use Rattle.iso_report.specs.Found.{Finds};
 ghost use Rattle.iso_report.specs.Jobs.{is_built};
 ghost use Rattle.iso_text.specs.Ranges.{IsInRange};
-ghost use Rattle.iso_report.specs.HeldFiles.{AreStarsHeld, AreCellsHeld, AreRepsHeld, AreInducedHeld};
+ghost use Rattle.report_steps.specs.HeldFiles.{AreStarsHeld, AreCellsHeld, AreRepsHeld, AreInducedHeld};
 ghost use Rattle.iso_report.specs.Outcome.{IsFound, AfterText, AfterParent, AfterPhases, AfterOrder, AfterReps, IsOutcome};
 
-use crate::context::{Celled, InducedFile, Parented, Represented, Starred};
-use crate::division::divide;
-use crate::found::{Found, report_text};
-use crate::induction::induced_of;
+use crate::found::{Found, found_listing, report_text};
 use crate::job::Job;
-use crate::listing::list_found;
-use crate::parent::parent_of;
-use crate::reading::read_file;
-use crate::refusal::{Refusal, RunError};
-use crate::rep::reps_of;
-use crate::star::stars_of;
-use crate::step::Step;
+use crate::run_error::RunError;
 use iso_text::{Document, MAX_BYTES, NoMemory, Sink, put_all};
+use report_steps::{
+    Celled, InducedFile, Parented, Refusal, Represented, Starred, Step, divide, induced_of,
+    parent_of, read_file, reps_of, stars_of,
+};
 use std::alloc::Global;
 
 // What is found behind the representations that the small ones induce.
@@ -35,7 +30,7 @@ fn after_induced(alloc: Global, job: &Job, file: InducedFile) -> Result<Step<Fou
             after,
             count,
             ..
-        } => list_found(alloc, file, *irrep, *after, *count),
+        } => found_listing(alloc, file, *irrep, *after, *count),
         Job::Modes { .. } | Job::Amps | Job::Demo { .. } => unreachable!(),
     }
 }

@@ -1,7 +1,7 @@
 use Rattle.std.proofs.Common.{◌∙◌, ◌++◌, ◌<◌, ◌≤◌, length, get_or, take, flat_map, sym, ap, arith, append_assoc}
 use Rattle.std.proofs.lemmas.List.{take_all}
 use Rattle.space_ops.specs.Op.{identity_op}
-use Rattle.iso_report.specs.Check.{listed_line}
+use Rattle.report_steps.specs.OpLines.{listed_line}
 use Rattle.iso_report.proofs.CheckLemmas.{flat_map_more}
 use Rattle.iso_report.proofs.check.push_listed.Goals as goal
 

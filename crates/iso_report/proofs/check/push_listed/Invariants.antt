@@ -1,5 +1,5 @@
 use Rattle.std.proofs.Common.{◌≡◌, ◌++◌, take, length, flat_map}
-use Rattle.iso_report.specs.Check.{listed_line}
+use Rattle.report_steps.specs.OpLines.{listed_line}
 use Rattle.iso_report.proofs.check.push_listed.Given as goal
 
 abbrev pub invariant-loop-i : goal.invariant-loop-i

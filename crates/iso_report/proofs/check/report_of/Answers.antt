@@ -3,7 +3,8 @@ use Rattle.iso_text.specs.Lines.{line}
 use Rattle.space_ops.specs.Group.{Parent}
 use Rattle.space_ops.specs.Lattice.{centrings_of}
 use Rattle.super_group.specs.Quotient.{order_of}
-use Rattle.iso_report.specs.Check.{first_line, lattice_line, listed_line, supercell_line}
+use Rattle.iso_report.specs.Check.{first_line, lattice_line, supercell_line}
+use Rattle.report_steps.specs.OpLines.{listed_line}
 use Rattle.iso_report.proofs.CheckLemmas.{lines-joined}
 use Rattle.iso_report.proofs.check.report_of.Goals as goal
 

@@ -1,6 +1,6 @@
 use Rattle.std.proofs.Common.{◌∙◌, ◌++◌, ◌<◌, ◌≤◌, length, get_or, flat_map, sym, ap, arith}
 use Rattle.std.proofs.lemmas.List.{take_all}
-use Rattle.iso_report.specs.IrrepReport.{arm_line}
+use Rattle.report_steps.specs.IrrepReport.{arm_line}
 use Rattle.iso_report.proofs.CheckLemmas.{flat_map_more}
 use Rattle.iso_report.proofs.irrep_report.arms_text.Goals as goal
 

@@ -1,5 +1,5 @@
 use Rattle.std.proofs.Common.{◌≡◌, take, length, flat_map}
-use Rattle.iso_report.specs.IrrepReport.{arm_line}
+use Rattle.report_steps.specs.IrrepReport.{arm_line}
 use Rattle.iso_report.proofs.irrep_report.arms_text.Given as goal
 
 abbrev pub invariant-loop-i : goal.invariant-loop-i

@@ -2,9 +2,9 @@ use Rattle.std.proofs.Common.{◌≡◌, ◌∙◌, ◌++◌, ◌<◌, ◌≤◌
 use Rattle.std.proofs.lemmas.List.{take_all}
 use Rattle.induce.specs.InducedView.{InducedView}
 use Rattle.iso_text.specs.declared.sections.IrrepText.{IrrepText}
-use Rattle.iso_report.specs.Held.{facts_in, IsInducedHeld}
-use Rattle.iso_report.specs.IrrepReport.{irrep_text, irreps_text}
-use Rattle.iso_report.proofs.EachLemmas.{each-length, each-at}
+use Rattle.report_steps.specs.Held.{facts_in, IsInducedHeld}
+use Rattle.report_steps.specs.IrrepReport.{irrep_text, irreps_text}
+use Rattle.report_steps.specs.EachLaws.{each-length, each-at}
 use Rattle.iso_report.proofs.ReportLemmas.{irreps-more}
 use Rattle.iso_report.proofs.irrep_report.each_text.Goals as goal
 

@@ -1,6 +1,6 @@
 use Rattle.std.proofs.Common.{◌≡◌, take, map}
-use Rattle.iso_report.specs.Held.{facts_in}
-use Rattle.iso_report.specs.IrrepReport.{irreps_text}
+use Rattle.report_steps.specs.Held.{facts_in}
+use Rattle.report_steps.specs.IrrepReport.{irreps_text}
 use Rattle.iso_report.proofs.irrep_report.each_text.Given as goal
 
 abbrev pub invariant-loop-i : goal.invariant-loop-i

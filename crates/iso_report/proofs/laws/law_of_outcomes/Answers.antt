@@ -2,4 +2,16 @@ use Rattle.iso_report.proofs.OutcomeLemmas.{outcome-one}
 use Rattle.iso_report.proofs.laws.law_of_outcomes.Goals as goal
 
 pub returns : goal.returns
-returns c = outcome-one c.law_of_files.ensures.file c.law_of_files.ensures.cause c.law_of_files.ensures.apart c.law_of_symbols.ensures c.law_of_lists.ensures c.law_of_listings.ensures
+returns c =
+    let s = c.law_of_steps.ensures in
+    let i = c.law_of_irreps.ensures in
+    outcome-one (record {
+      text = s.text;
+      parent = s.parent;
+      phases = s.phases;
+      order = s.order;
+      reps = s.reps;
+      dimensions = s.dimensions;
+      facts = i.facts;
+      list = c.law_of_list.ensures;
+    })

@@ -7,4 +7,4 @@ returns-in-Check c = checked-found c.args.job.now c.args.file c.in-Check.is c.re
 pub returns-in-List : goal.returns-in-List
 returns-in-List c =
     let l = c.in-List in
-    list-job-found c.args.job.now l.irrep l.after l.count l.tally c.args.file.divided l.is c.requires.built c.list_found.result c.list_found.ensures
+    list-job-found c.args.job.now l.irrep l.after l.count l.tally c.args.file.divided l.is c.requires.built c.found_listing.result c.found_listing.ensures

@@ -1,7 +1,8 @@
 use Rattle.iso_report.specs.Outcome.{AfterPhases}
-use Rattle.iso_report.specs.Stages.{RefusesPhases, HavePhases}
-use Rattle.iso_report.specs.Steps.{never}
-use Rattle.iso_report.proofs.StepLemmas.{found-refused, found-next}
+use Rattle.report_steps.specs.Stages.{RefusesPhases, HavePhases}
+use Rattle.report_steps.specs.Steps.{never}
+use Rattle.iso_report.specs.Found.{text_of, IsFoundHeld}
+use Rattle.report_steps.specs.FindingLaws.{found-refused, found-next}
 use Rattle.iso_report.proofs.outcome.after_parent.Goals as goal
 
 pub after_phases-requires-clause-held : goal.after_phases-requires-clause-held
@@ -10,7 +11,7 @@ after_phases-requires-clause-held c = (rw c.in-Passed.is at c.in_ok-starred.ensu
 pub returns-in-Passed : goal.returns-in-Passed
 returns-in-Passed c =
     let passed = rw c.in-Passed.is at c.in_ok-starred.ensures in
-    found-next RefusesPhases never HavePhases (AfterPhases c.args.job.now) c.args.parented c.in-Passed.starred.parented passed.0 c.after_phases.result c.after_phases.ensures
+    found-next text_of IsFoundHeld RefusesPhases never HavePhases (AfterPhases c.args.job.now) c.args.parented c.in-Passed.starred.parented passed.0 c.after_phases.result c.after_phases.ensures
 
 pub returns-in-Refused : goal.returns-in-Refused
-returns-in-Refused c = found-refused RefusesPhases never HavePhases (AfterPhases c.args.job.now) c.args.parented c.in-Refused.refusal (rw c.in-Refused.is at c.in_ok-starred.ensures)
+returns-in-Refused c = found-refused text_of IsFoundHeld RefusesPhases never HavePhases (AfterPhases c.args.job.now) c.args.parented c.in-Refused.refusal (rw c.in-Refused.is at c.in_ok-starred.ensures)

@@ -1,6 +1,0 @@
-use Rattle.std.proofs.Common.{ℕ, ◌<◌}
-use Rattle.iso_report.specs.Generators.{IsGoodAt}
-use Rattle.iso_report.proofs.generators.first_bad.Given as goal
-
-abbrev pub invariant-loop-k : goal.invariant-loop-k
-invariant-loop-k l = (j : ℕ) → j < l.k → IsGoodAt l.lines j

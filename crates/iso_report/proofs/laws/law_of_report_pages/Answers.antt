@@ -1,5 +1,0 @@
-use Rattle.iso_report.proofs.PageJoinLemmas.{pages-joined}
-use Rattle.iso_report.proofs.laws.law_of_report_pages.Goals as goal
-
-pub returns : goal.returns
-returns c = pages-joined c.law_of_pages.ensures

@@ -1,4 +1,0 @@
-use Rattle.iso_report.proofs.listing.after_choice.Given as goal
-
-abbrev pub ghosts-after_form : goal.ghosts-after_form
-ghosts-after_form a = record { name = a.blank.name; parts = a.blank.parts }

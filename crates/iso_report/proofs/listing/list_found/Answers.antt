@@ -1,9 +1,0 @@
-use Rattle.std.proofs.Common.{◌∙◌, ap}
-use Rattle.iso_text.specs.FileValue.{File}
-use Rattle.iso_report.proofs.ListingLemmas.{choice-next}
-use Rattle.iso_report.proofs.listing.list_found.Goals as goal
-
-pub returns-in-Some : goal.returns-in-Some
-returns-in-Some c =
-    let irreps = c.irreps.ensures ∙ ap (λ (x : File). x.irreps) c.document.ensures in
-    choice-next c.args.wanted c.args.after c.args.count c.args.file.divided c.irreps.result.now irreps c.in-Some.k c.in-Some.ensures c.after_choice.result c.after_choice.ensures

@@ -1,9 +1,0 @@
-use Rattle.std.proofs.Common.{refl}
-use Rattle.iso_report.proofs.ListingLemmas.{is-listing-held}
-use Rattle.iso_report.proofs.listing.listed.Goals as goal
-
-pub returns-clause-held : goal.returns-clause-held
-returns-clause-held c =
-    let x = c.args.formed in
-    is-listing-held x c.requires.held (record { format = x.format; name = x.name; quotient = x.quotient; dim = c.dim-dim.result; listing = c.args.listing; after = c.args.after; count = c.args.count }) c.requires.directions
-    refl refl refl c.dim-dim.ensures
