@@ -1,0 +1,47 @@
+use Rattle.std.proofs.Common.{◌≡◌, ◌<◌, ◌≤◌, ℕ, length, sym, subst}
+use Rattle.cyclo24.specs.ExactK24.{k24, k24_laws}
+use Rattle.cyclo24.specs.K24.{exact24}
+use Rattle.mode_project.specs.AtomSpace.{displacements}
+use Rattle.mode_project.specs.ModeLaws.{modes-sums}
+use Rattle.mode_project.specs.Modes.{vector_at}
+use Rattle.mode_project.specs.ModesView.{irrep_modes_in}
+use Rattle.mode_project.specs.ProjectionLaws.{projection-commutes}
+use Rattle.mode_project.specs.Weights.{exact_weights}
+use Rattle.mode_project.proofs.FinalLemmas.{final-count, final-independent, final-span, weight-class}
+use Rattle.mode_project.proofs.JointLemmas.{lists-length}
+use Rattle.mode_project.proofs.basis.modes.Goals as goal
+
+pub returns-in-Ok-clause-count : goal.returns-in-Ok-clause-count
+returns-in-Ok-clause-count c =
+    let m = c.in-Ok.found in
+    final-count k24 exact24 (displacements c.args.quotient.now c.args.orbit.now) (exact_weights c.args.weights.now) m.rows m.sites c.in-Ok.ensures.modes
+
+pub returns-in-Ok-clause-independent : goal.returns-in-Ok-clause-independent
+returns-in-Ok-clause-independent c =
+    let m = c.in-Ok.found in
+    final-independent k24 exact24 (displacements c.args.quotient.now c.args.orbit.now) (exact_weights c.args.weights.now) m.rows m.sites c.in-Ok.ensures.modes
+
+pub returns-in-Ok-clause-spanning : goal.returns-in-Ok-clause-spanning
+returns-in-Ok-clause-spanning c =
+    let m = c.in-Ok.found in
+    final-span k24 exact24 (displacements c.args.quotient.now c.args.orbit.now) (exact_weights c.args.weights.now) m.rows m.sites c.in-Ok.ensures.modes
+
+pub returns-in-Ok-clause-sums : goal.returns-in-Ok-clause-sums
+returns-in-Ok-clause-sums c j l =
+    let m = c.in-Ok.found in
+    let n : j ≤ length (exact_weights c.args.weights.now) = subst (λ (k : ℕ). j ≤ k) (sym (lists-length k24 exact24 c.args.weights.now)) l in
+    modes-sums k24_laws (displacements c.args.quotient.now c.args.orbit.now) (exact_weights c.args.weights.now) (irrep_modes_in m) m.sites c.in-Ok.ensures.modes j n
+
+pub returns-in-Ok-clause-commutes : goal.returns-in-Ok-clause-commutes
+returns-in-Ok-clause-commutes c j q lj lq v i li =
+    let g = c.args.quotient.now in
+    let o = c.args.orbit.now in
+    projection-commutes k24_laws (displacements g o) (c.law_of_displacements.ensures g o c.order-order.ensures.quotient c.requires.orbit) (vector_at k24_laws (exact_weights c.args.weights.now) j)
+    (weight-class g c.args.weights.now c.requires.weights j lj) q lq v i li
+
+pub returns-in-Err-clause-commutes : goal.returns-in-Err-clause-commutes
+returns-in-Err-clause-commutes c j q lj lq v i li =
+    let g = c.args.quotient.now in
+    let o = c.args.orbit.now in
+    projection-commutes k24_laws (displacements g o) (c.law_of_displacements.ensures g o c.order-order.ensures.quotient c.requires.orbit) (vector_at k24_laws (exact_weights c.args.weights.now) j)
+    (weight-class g c.args.weights.now c.requires.weights j lj) q lq v i li

@@ -1,0 +1,79 @@
+// The modes of an orbit, a basis of its displacements.
+ghost use Rattle.std.specs.Prelude.{◌≡◌, ◌<◌, ◌≤◌, ◌*◌, ℕ, Err, IfOk, length, take};
+ghost use Rattle.cyclo24.specs.ExactK24.{Exact24, k24, k24_laws};
+ghost use Rattle.lin_alg.specs.Spans.{row_vectors, IsInSpan, AreSame};
+ghost use Rattle.lin_alg.specs.Reduced.{IsWithin};
+ghost use Rattle.lin_alg.specs.Matrices.{apply};
+ghost use Rattle.lin_alg.specs.Solving.{AreIndependent, plain_rows};
+ghost use Rattle.super_group.specs.Quotient.{order_of};
+ghost use Rattle.mode_project.specs.AtomSpace.{IsOrbit, matrix_of, displacements};
+ghost use Rattle.mode_project.specs.Projection.{projection, IsInSum};
+ghost use Rattle.mode_project.specs.Modes.{AreModes, vector_at, before_irrep};
+ghost use Rattle.mode_project.specs.Wide.{IsWideModes};
+ghost use Rattle.mode_project.specs.Weights.{exact_weights, AreWeights};
+ghost use Rattle.mode_project.specs.ModesView.{irrep_modes_in, count_in, mode_in};
+ghost use Rattle.mode_project.specs.declared.errors.ModeError.TheVariants as mode_error;
+
+use crate::displaced::displacement_modes;
+use crate::errors::FAMILY;
+use crate::laws::law_of_displacements;
+use crate::sites::free_columns;
+use crate::{ModeError, Modes, Weights};
+use cyclo24::K24;
+use lin_alg::LinError;
+use std::alloc::Global;
+use std::marker::Brand;
+use super_group::Quotient;
+use wyckoff::Orbit;
+
+/// A basis of the displacements of the atoms of an orbit: modes of the irreps in order, then unit
+/// vectors. A mode has three numbers for each atom, along the cell edges. Condition: the orbit and the
+/// weights are of this quotient. Errors: a number that is too wide; want of memory.
+pub fn modes(
+    alloc: Global,
+    quotient: &Quotient,
+    orbit: &Orbit,
+    weights: &Weights,
+) -> Result<Modes, ModeError>
+    requires orbit { IsOrbit quotient.now orbit.now }
+    requires weights { AreWeights quotient.now weights.now }
+    ensures modes { IfOk result (λ m. AreModes k24_laws (displacements quotient.now orbit.now) (exact_weights weights.now) (irrep_modes_in m) m.sites) }
+    ensures size { IfOk result (λ m. m.size ≡ length orbit.now.places * 3) }
+    ensures count { IfOk result (λ m. count_in m ≡ length orbit.now.places * 3) }
+    ensures independent { IfOk result (λ m. AreIndependent k24_laws (count_in m) (mode_in m)) }
+    ensures spanning { IfOk result (λ m. AreSame (IsInSpan k24_laws (plain_rows (mode_in m) (count_in m))) (IsWithin k24_laws (length orbit.now.places * 3))) }
+    ensures sums { IfOk result (λ m. (j : ℕ) → j ≤ length weights.now → AreSame (IsInSpan k24_laws (row_vectors (before_irrep j (irrep_modes_in m)))) (IsInSum k24_laws (displacements quotient.now orbit.now) (take j (exact_weights weights.now)))) }
+    ensures commutes { (j q : ℕ) → j < length weights.now → q < order_of quotient.now → (v : ℕ → Exact24) (i : ℕ) → i < length orbit.now.places * 3 → apply k24_laws (length orbit.now.places * 3) (projection k24_laws (displacements quotient.now orbit.now) (vector_at k24_laws (exact_weights weights.now) j)) (apply k24_laws (length orbit.now.places * 3) (matrix_of k24_laws (displacements quotient.now orbit.now) q) v) i ≡ apply k24_laws (length orbit.now.places * 3) (matrix_of k24_laws (displacements quotient.now orbit.now) q) (apply k24_laws (length orbit.now.places * 3) (projection k24_laws (displacements quotient.now orbit.now) (vector_at k24_laws (exact_weights weights.now) j)) v) i }
+    ensures wide { (f : ℕ) → (result ≡ Err (mode_error.Wide f)) → (f ≡ 5) × IsWideModes k24 (displacements quotient.now orbit.now) (exact_weights weights.now) }
+{
+    let _order = quotient.order();
+    law_of_displacements();
+    match find_modes(alloc, quotient, orbit, weights) {
+        Ok(found) => Ok(found),
+        Err(error) => Err(error),
+    }
+}
+
+// The defined modes.
+fn find_modes(
+    alloc: Global,
+    quotient: &Quotient,
+    orbit: &Orbit,
+    weights: &Weights,
+) -> Result<Modes, ModeError>
+    requires orbit { IsOrbit quotient.now orbit.now }
+    requires weights { AreWeights quotient.now weights.now }
+    ensures modes { IfOk result (λ m. AreModes k24_laws (displacements quotient.now orbit.now) (exact_weights weights.now) (irrep_modes_in m) m.sites) }
+    ensures size { IfOk result (λ m. m.size ≡ length orbit.now.places * 3) }
+    ensures wide { (f : ℕ) → (result ≡ Err (mode_error.Wide f)) → (f ≡ 5) × IsWideModes k24 (displacements quotient.now orbit.now) (exact_weights weights.now) }
+{
+    let joint = match displacement_modes::<Brand, K24>(alloc, quotient, orbit, weights.lists()) {
+        Ok(joint) => joint,
+        Err(LinError::Wide) => return Err(ModeError::Wide(FAMILY)),
+        Err(LinError::NoMemory) => return Err(ModeError::NoMemory),
+    };
+    match free_columns(alloc, &joint.form) {
+        Ok(sites) => Ok(Modes::of_rows(joint.form.width(), joint.rows, sites)),
+        Err(_) => Err(ModeError::NoMemory),
+    }
+}

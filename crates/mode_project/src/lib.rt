@@ -1,0 +1,39 @@
+//! Displacement modes: a basis of the displacements of all atoms of an orbit, sorted by irreps.
+//!
+//! Source: Serre, Linear Representations of Finite Groups, 2.6, for the projections, which aren't
+//! normalised here. Conventions: a displacement is a column along the cell edges, number a of atom i in
+//! column 3 i + a, from 0; column m of M(q) is the image of unit vector m.
+//! For the layer above: `modes` gives the defined modes, which are a basis, and `modes_of` those of one
+//! irrep that a stabiliser leaves as they are. The smallest call: `modes(alloc, &quotient, &orbit, &weights)`.
+#![tactic(auto)]
+
+mod basis;
+mod column;
+mod combined;
+mod direction;
+mod displaced;
+mod errors;
+mod found;
+mod image;
+mod insertion;
+mod irreps;
+mod joint;
+mod laws;
+mod left;
+mod range;
+mod rotations;
+mod rows;
+mod sites;
+mod space;
+mod table;
+mod turns;
+mod weights;
+
+pub use basis::modes;
+pub use direction::modes_of;
+pub use errors::ModeError;
+pub use found::Modes;
+pub use laws::{
+    law_of_displacements, law_of_modes, law_of_one_basis, law_of_one_orbit, law_of_projections,
+};
+pub use weights::Weights;

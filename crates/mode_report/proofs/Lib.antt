@@ -1,0 +1,10 @@
+pub mod CauseLemmas
+pub mod EachLemmas
+pub mod EntryLemmas
+pub mod FoundLemmas
+pub mod MoveLemmas
+pub mod PlaceLemmas
+pub mod ReportLemmas
+pub mod TextLemmas
+pub mod UniqueLemmas
+pub mod UnitLemmas

@@ -1,0 +1,124 @@
+-- What is told of the orbits of a file is one.
+use Rattle.std.proofs.Common.{◌≡◌, refl, sym, ap, ◌∙◌, subst, ◌⊎◌, inl, inr, ℕ, suc, ◌<◌, ◌≤◌, List, [], ◌∷◌, length, Some, slice_get, arith}
+use Rattle.std.proofs.lemmas.Bool.{cases_lt}
+use Rattle.cyclo24.specs.ExactK24.{Exact24, k24_laws}
+use Rattle.cyclo24.specs.ExactZ24.{z24_laws}
+use Rattle.iso_text.specs.declared.sections.AtomText.{AtomText}
+use Rattle.iso_text.specs.declared.sections.IrrepText.{IrrepText}
+use Rattle.kstar.specs.Star.{WaveStar}
+use Rattle.lin_alg.specs.Matrices.{trace}
+use Rattle.lin_alg.specs.SpanLaws.{funext}
+use Rattle.lin_alg.specs.TraceLaws.{trace-same}
+use Rattle.space_ops.specs.Op.{vector_of}
+use Rattle.super_group.specs.Quotient.{SupercellGroup, IsQuotient, order_of}
+use Rattle.small_rep.specs.SmallRep.{Matrices}
+use Rattle.induce.specs.Induced.{dimension_of, induced_of, weight_of, weight_at}
+use Rattle.wyckoff.specs.AtomLines.{AreOrbitsOf}
+use Rattle.wyckoff.specs.Orbit.{OrbitView, IsOrbitOf}
+use Rattle.wyckoff.specs.OrbitLaws.{places-unique}
+use Rattle.mode_project.specs.AtomSpace.{AtomSpace, displacements}
+use Rattle.mode_project.specs.Modes.{AreModes}
+use Rattle.mode_project.specs.OneBasis.{AreAlike}
+use Rattle.report_steps.specs.Contexts.{Divided}
+use Rattle.report_steps.specs.EachLaws.{each-same}
+use Rattle.report_steps.specs.InducedLaws.{InduceTheSame}
+use Rattle.report_steps.specs.IrrepSteps.{Each}
+use Rattle.report_steps.specs.Irreps.{IsRepresented}
+use Rattle.report_steps.specs.StepLaws.{IsSingleAt}
+use Rattle.mode_report.specs.AllModes.{IsToldOf, told_modes}
+use Rattle.mode_report.specs.Atoms.{RefusesAtoms, HaveOrbits}
+use Rattle.mode_report.specs.IrrepWeights.{IsWeightOf, AreWeightsOf}
+use Rattle.mode_report.specs.ModesFound.{AreToldOf}
+use Rattle.mode_report.specs.Told.{OrbitModes, counts_text}
+use Rattle.mode_report.proofs.CauseLemmas.{refused-one, none-refused}
+
+-- the law of the irreps of a file
+abbrev pub InduceOne : SupercellGroup → Type 0
+InduceOne q = (i : IrrepText) (s t : WaveStar) (g m : Matrices) → IsRepresented q.parent i s g → IsRepresented q.parent i t m → InduceTheSame q i s t g m
+
+-- the law of the orbits of an atom
+abbrev pub HaveOneOrbit : SupercellGroup → Type 0
+HaveOneOrbit q = (atom : AtomText) (o u : OrbitView) → IsOrbitOf q atom o → IsOrbitOf q atom u → AreAlike (displacements q o) (displacements q u)
+
+-- the law of modes
+abbrev pub HaveOneBasis : Type 0
+HaveOneBasis =
+    (s t : AtomSpace) (ws : List (ℕ → Exact24)) (ms ns : List (ℕ × (ℕ → Exact24))) (sites columns : List ℕ) → AreAlike s t → AreModes k24_laws s ws ms sites → AreModes k24_laws t ws ns columns
+    → (ms ≡ ns) × (sites ≡ columns)
+
+-- ---- lists
+
+orbits-each : (q : SupercellGroup) (atoms : List AtomText) (orbits : List OrbitView) → length orbits ≡ length atoms
+    → ((n : ℕ) (atom : AtomText) (o : OrbitView) → slice_get atoms n ≡ Some atom → slice_get orbits n ≡ Some o → IsOrbitOf q atom o) → Each (IsOrbitOf q) atoms orbits
+orbits-each q [] [] e f = tt
+orbits-each q [] (o ∷ orbits) e f = absurd (omega arith)
+orbits-each q (a ∷ atoms) [] e f = absurd (omega arith)
+orbits-each q (a ∷ atoms) (o ∷ orbits) e f = (f 0 a o refl refl, orbits-each q atoms orbits (omega arith) (λ n x y s t. f (suc n) x y s t))
+
+each-through : {A B C : Type 0} (R : A → B → Type 0) (S : B → C → Type 0) (xs : List A) (ys : List B) (zs : List C) → Each R xs ys → Each S ys zs → Each (λ x z. (y : B) × R x y × S y z) xs zs
+each-through R S [] [] [] h k = tt
+each-through R S [] [] (z ∷ zs) h k = k
+each-through R S [] (y ∷ ys) zs h k = absurd h
+each-through R S (x ∷ xs) [] zs h k = absurd h
+each-through R S (x ∷ xs) (y ∷ ys) [] h k = k
+each-through R S (x ∷ xs) (y ∷ ys) (z ∷ zs) h k = ((y, h.0, k.0), each-through R S xs ys zs h.1 k.1)
+
+-- ---- weights
+
+module _ (q : SupercellGroup) (one : InduceOne q) where
+  weight-same : (i : IrrepText) (s t : WaveStar) (g m : Matrices) (e : ℕ) → IsRepresented q.parent i s g → IsRepresented q.parent i t m → weight_at q s i.size g e ≡ weight_at q t i.size m e
+  weight-same i s t g m e a b =
+      let h = one i s t g m a b in
+      ap weight_of
+      (trace-same z24_laws (dimension_of s i.size) (induced_of q s i.size g e) (induced_of q t i.size m e) (λ x y. h.entry e x y)
+      ∙ ap (λ n. trace z24_laws n (induced_of q t i.size m e)) h.dimension)
+
+  weight-one : (i : IrrepText) (w v : ℕ → Exact24) → IsWeightOf q i w → IsWeightOf q i v → w ≡ v
+  weight-one i w v (s, g, a) (t, m, b) = funext (λ e. at e (inside e))
+    where
+      inside : (e : ℕ) → (e < order_of q) ⊎ (order_of q ≤ e)
+      inside e = grind arith
+
+      at : (e : ℕ) → (e < order_of q) ⊎ (order_of q ≤ e) → w e ≡ v e
+      at e (inl l) = a.inside e l ∙ weight-same i s t g m e a.inducible.rep b.inducible.rep ∙ sym (b.inside e l)
+      at e (inr l) = a.past e l ∙ sym (b.past e l)
+
+  weights-one : (irreps : List IrrepText) (ws vs : List (ℕ → Exact24)) → AreWeightsOf q irreps ws → AreWeightsOf q irreps vs → ws ≡ vs
+  weights-one irreps ws vs = each-same (IsWeightOf q) irreps ws vs weight-one
+
+-- ---- what is told
+
+module _ (q : SupercellGroup) (alike : HaveOneOrbit q) (basis : HaveOneBasis) (irreps : List IrrepText) (ws : List (ℕ → Exact24)) where
+  -- what is told of the orbit of an atom
+  abbrev IsToldFor : AtomText → OrbitModes → Type 0
+  IsToldFor atom told = (o : OrbitView) × IsOrbitOf q atom o × IsToldOf q irreps ws o told
+
+  told-one : (atom : AtomText) (x y : OrbitModes) → IsToldFor atom x → IsToldFor atom y → x ≡ y
+  told-one atom x y (o, h, a) (u, k, b) =
+      let m = basis (displacements q o) (displacements q u) ws a.rows b.rows a.sites b.sites (alike atom o u h k) a.modes b.modes in
+      let label : x.label ≡ y.label = a.label_is ∙ h.label ∙ sym k.label ∙ sym b.label_is in
+      let places : x.places ≡ y.places = a.places_are ∙ places-unique q (vector_of atom.place) o.places u.places h.places k.places ∙ sym b.places_are in
+      let counts : x.counts ≡ y.counts = a.counts_are ∙ (λ i. counts_text (length (m.0 i)) (length (m.1 i))) ∙ sym b.counts_are in
+      let modes : x.modes ≡ y.modes = a.modes_are ∙ (λ i. told_modes irreps (m.0 i) (m.1 i)) ∙ sym b.modes_are in
+      λ i. record { label = label i; places = places i; counts = counts i; modes = modes i }
+
+  told-for : (atoms : List AtomText) (orbits : List OrbitView) (told : List OrbitModes) → AreOrbitsOf q atoms orbits → Each (IsToldOf q irreps ws) orbits told → Each IsToldFor atoms told
+  told-for atoms orbits told h k = each-through (IsOrbitOf q) (IsToldOf q irreps ws) atoms orbits told (orbits-each q atoms orbits h.count h.each) k
+
+  all-one : (atoms : List AtomText) (os us : List OrbitView) (x y : List OrbitModes) → AreOrbitsOf q atoms os → AreOrbitsOf q atoms us → Each (IsToldOf q irreps ws) os x → Each (IsToldOf q irreps ws) us y → x ≡ y
+  all-one atoms os us x y h k a b = each-same IsToldFor atoms x y told-one (told-for atoms os x h a) (told-for atoms us y k b)
+
+module _ (d : Divided) (one : InduceOne d.quotient) (alike : HaveOneOrbit d.quotient) (basis : HaveOneBasis) where
+  told-same : (x y : List OrbitModes) → AreToldOf d x → AreToldOf d y → x ≡ y
+  told-same x y (p, h, (ws, w, a)) (u, k, (vs, v, b)) =
+      let q = d.quotient in
+      let irreps = d.file.irreps in
+      let W : List (ℕ → Exact24) → Divided → Type 0 = λ s e. AreWeightsOf e.quotient e.file.irreps s in
+      let T : List (ℕ → Exact24) → List OrbitView → List OrbitModes → Divided → Type 0 = λ s os t e. Each (IsToldOf e.quotient e.file.irreps s) os t in
+      let e : vs ≡ ws = weights-one q one irreps vs ws (subst (W vs) k.divided_is v) (subst (W ws) h.divided_is w) in
+      let other = subst (T vs u.orbits y) k.divided_is b in
+      let V : List (ℕ → Exact24) → Type 0 = λ s. T s u.orbits y d in
+      all-one q alike basis irreps ws d.file.atoms p.orbits u.orbits x y h.orbits k.orbits (subst (T ws p.orbits x) h.divided_is a) (subst V e other)
+
+  pub told-single : IsSingleAt RefusesAtoms AreToldOf d
+  told-single = record { refusal = refused-one d; value = told-same; apart = λ r told f (p, h, t). none-refused d r h.accepted f }

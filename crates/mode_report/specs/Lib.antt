@@ -1,0 +1,20 @@
+-- The modules, each behind those that it stands on.
+
+-- what is told of an orbit
+pub mod Told
+-- the report of `modes`
+pub mod ModesReport
+-- what the parts of the code that writes moves give
+pub mod MoveParts
+-- the texts of a list with one more at the end
+pub mod ReportLaws
+-- the orbits of the atoms of a file
+pub mod Atoms
+-- the weights of the irreps of a file
+pub mod IrrepWeights
+-- the modes of the orbits of a file
+pub mod AllModes
+-- what the program holds of orbits and modes
+pub mod Held
+-- what `modes` finds in a file
+pub mod ModesFound

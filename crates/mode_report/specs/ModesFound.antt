@@ -1,0 +1,28 @@
+-- What `modes` finds in a file behind the steps that all jobs share.
+--
+-- AreWideAll d k: a number of the modes of some orbit of the atoms is wide
+-- AreToldOf d told: what is told of the orbits of the atoms
+-- IsReported format told f: the report
+-- AreModesFound d f: what is found: an atom line that is refused, a number that is wide, or the report
+use Rattle.std.specs.Prelude.{◌≡◌, ℕ, List}
+use Rattle.report_steps.specs.Contexts.{Divided}
+use Rattle.report_steps.specs.Finding.{Finding, report}
+use Rattle.report_steps.specs.Steps.{After}
+use Rattle.mode_report.specs.AllModes.{AreWideOrbits, HaveModes}
+use Rattle.mode_report.specs.Atoms.{Placed, RefusesAtoms, HaveOrbits}
+use Rattle.mode_report.specs.ModesReport.{modes_text}
+use Rattle.mode_report.specs.Told.{OrbitModes}
+
+-- no atom line is refused, and a number of the modes of some orbit is wide
+abbrev pub AreWideAll : Divided → ℕ → Type 0
+AreWideAll d k = (p : Placed) × HaveOrbits d p × AreWideOrbits p k
+
+-- no atom line is refused, and these are the orbits with their modes
+abbrev pub AreToldOf : Divided → List OrbitModes → Type 0
+AreToldOf d told = (p : Placed) × HaveOrbits d p × HaveModes p told
+
+abbrev pub IsReported : ℕ → List OrbitModes → Finding → Type 0
+IsReported format told f = f ≡ report (modes_text format told)
+
+abbrev pub AreModesFound : Divided → Finding → Type 0
+AreModesFound d = After RefusesAtoms AreWideAll AreToldOf (IsReported d.file.format) d

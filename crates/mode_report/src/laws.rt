@@ -1,0 +1,20 @@
+// Laws over the definitions, as contracts of functions that do nothing.
+ghost use Rattle.super_group.specs.Quotient.{IsQuotient};
+ghost use Rattle.report_steps.specs.Contexts.{Divided};
+ghost use Rattle.report_steps.specs.StepLaws.{IsSingleAt};
+ghost use Rattle.mode_report.specs.Atoms.{RefusesAtoms};
+ghost use Rattle.mode_report.specs.ModesFound.{AreToldOf};
+
+use cyclo24::K24;
+use mode_project::{law_of_one_basis, law_of_one_orbit};
+use report_steps::law_of_irreps;
+
+/// At most one atom line of a file is refused, for one cause; or what is told of its orbits and modes
+/// is one; and not both.
+pub fn law_of_modes_found()
+    ensures { (d : Divided) → IsQuotient d.quotient → IsSingleAt RefusesAtoms AreToldOf d }
+{
+    law_of_one_basis::<K24>();
+    law_of_one_orbit();
+    law_of_irreps();
+}

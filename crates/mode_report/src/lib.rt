@@ -1,0 +1,24 @@
+//! What `modes` finds in a file, and its report.
+//!
+//! Conventions: a place is in units of 1/12,000,000 of the cell edges; a mode is a row of three
+//! numbers for each atom; orbits, places, modes and atoms are numbered from 1 in the report.
+#![tactic(auto)]
+
+mod atoms;
+mod found;
+mod head;
+mod laws;
+mod mode_text;
+mod moves;
+mod orbit_modes;
+mod orbit_text;
+mod place_text;
+mod report;
+mod weights;
+
+pub use atoms::orbits_of;
+pub use found::{FoundModes, modes_found, modes_text_of};
+pub use laws::law_of_modes_found;
+pub use orbit_modes::all_modes;
+pub use report::modes_report;
+pub use weights::weights_of;
