@@ -4,8 +4,8 @@ use Rattle.iso_report.specs.Endings.{Change}
 use Rattle.iso_report.specs.Outcome.{IsOutcome, report, refused}
 use Rattle.iso_report.specs.OutcomeLaws.{HasOneOutcome}
 use Rattle.iso_report.specs.declared.job.Job.{Job}
-use Rattle.iso_report.specs.declared.refusal.Refusal.{Refusal}
-use Rattle.iso_report.specs.declared.refusal.Refusal.TheVariants as refusal
+use Rattle.report_steps.specs.declared.refusal.Refusal.{Refusal}
+use Rattle.report_steps.specs.declared.refusal.Refusal.TheVariants as refusal
 use Rattle.iso_cli.specs.declared.status.Status.{Status}
 use Rattle.iso_cli.specs.declared.status.Status.TheVariants as status
 use Rattle.iso_cli.specs.Answers.{Answers, IsNarrow, IsNotWide, IsRefused, max_bytes}

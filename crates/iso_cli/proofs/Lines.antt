@@ -3,9 +3,9 @@ use Rattle.std.proofs.Common.{◌≡◌, ℕ, ◌<◌, ◌≤◌, ◌⊎◌, inl
 use Rattle.std.proofs.lemmas.List.{append-nil}
 use Rattle.iso_report.specs.Endings.{Change, Grew, IsBrokenOff, IsCutShort, change}
 use Rattle.iso_report.specs.Outcome.{IsOutcome, refused}
-use Rattle.iso_report.specs.Report.{line_of}
+use Rattle.report_steps.specs.Report.{line_of}
 use Rattle.iso_report.specs.declared.job.Job.{Job}
-use Rattle.iso_report.specs.declared.refusal.Refusal.{Refusal}
+use Rattle.report_steps.specs.declared.refusal.Refusal.{Refusal}
 use Rattle.iso_cli.specs.declared.status.Status.{Status}
 use Rattle.iso_cli.specs.declared.status.Status.TheVariants as status
 use Rattle.iso_cli.specs.Answers.{Says, SaysRefusal, Answers, max_bytes, too_long_line, memory_line, read_line, write_line}

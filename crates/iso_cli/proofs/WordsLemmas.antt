@@ -4,8 +4,8 @@ use Rattle.std.specs.Prelude.{option_and_then}
 use Rattle.iso_report.specs.Endings.{Change, change}
 use Rattle.iso_report.specs.Jobs.{is_built}
 use Rattle.iso_report.specs.declared.job.Job.{Job}
-use Rattle.iso_report.specs.Report.{line_of}
-use Rattle.iso_report.specs.declared.refusal.Refusal.{Refusal}
+use Rattle.report_steps.specs.Report.{line_of}
+use Rattle.report_steps.specs.declared.refusal.Refusal.{Refusal}
 use Rattle.iso_cli.specs.Answers.{Answers, Says, SaysRefusal, SaysUsage, memory_line}
 use Rattle.iso_cli.specs.Built.{built_job_of, if_built}
 use Rattle.iso_cli.specs.JobOf.{job_of}

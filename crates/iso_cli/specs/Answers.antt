@@ -7,11 +7,11 @@
 -- IsNarrow job bytes: no number of the job passes its bound on these bytes; IsNotWide r: the refusal is no such number
 use Rattle.std.specs.Prelude.{◌≢◌, ◌⊎◌, ℕ, ◌<◌, ◌≤◌, List, [], length, codes}
 use Rattle.iso_report.specs.declared.job.Job.{Job}
-use Rattle.iso_report.specs.declared.refusal.Refusal.{Refusal}
-use Rattle.iso_report.specs.declared.refusal.Refusal.TheVariants as refusal
+use Rattle.report_steps.specs.declared.refusal.Refusal.{Refusal}
+use Rattle.report_steps.specs.declared.refusal.Refusal.TheVariants as refusal
 use Rattle.iso_report.specs.Endings.{Change, Grew, GrewByPrefix, HasFailed, RunIsDone, IsCutShort, IsBrokenOff}
 use Rattle.iso_report.specs.Outcome.{IsOutcome, refused}
-use Rattle.iso_report.specs.Report.{line_of}
+use Rattle.report_steps.specs.Report.{line_of}
 use Rattle.iso_text.specs.Lines.{line}
 use Rattle.iso_cli.specs.UsageLine.{usage_line}
 use Rattle.iso_cli.specs.declared.status.Status.{Status}

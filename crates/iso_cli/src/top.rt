@@ -4,7 +4,7 @@ ghost use Rattle.iso_text.specs.Counts.{HasRisen, raised};
 ghost use Rattle.iso_text.specs.Streams.{IsRestOf};
 ghost use Rattle.iso_report.specs.Endings.{change};
 ghost use Rattle.iso_report.specs.Outcome.{IsOutcome, report, refused};
-ghost use Rattle.iso_report.specs.Report.{line_of};
+ghost use Rattle.report_steps.specs.Report.{line_of};
 ghost use Rattle.iso_report.specs.Jobs.{is_built};
 ghost use Rattle.iso_cli.specs.Answers.{Answers, AnswersNotBuilt, AnswersUsage, IsNarrow, IsNotWide, Says, SaysRefusal};
 ghost use Rattle.iso_cli.specs.Built.{HasUnbuilt, built_job_of};

@@ -1,5 +1,5 @@
 use Rattle.std.proofs.Common.{sym, ◌∙◌, inr}
-use Rattle.iso_report.specs.declared.refusal.Refusal.TheVariants as refusal
+use Rattle.report_steps.specs.declared.refusal.Refusal.TheVariants as refusal
 use Rattle.iso_cli.specs.JobOf.{texts_of}
 use Rattle.iso_cli.proofs.Completeness.{complete_answer, sound_answer}
 use Rattle.iso_cli.proofs.Lines.{grew_nothing, says_no_memory, says_same}
