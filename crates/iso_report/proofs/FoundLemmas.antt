@@ -1,5 +1,5 @@
 -- What is found behind the steps that all jobs share, by the program's values.
-use Rattle.std.proofs.Common.{◌≡◌, refl, sym, subst, map, ℕ, Bool, true, false, List, Option, Result, IfOk}
+use Rattle.std.proofs.Common.{◌≡◌, refl, sym, subst, map, ℕ, Bool, true, false, List, Option, None, Result, IfOk}
 use Rattle.std.proofs.lemmas.Bool.{true≢false}
 use Rattle.report_steps.specs.declared.context.InducedFile.{InducedFile}
 use Rattle.iso_report.specs.declared.found.Found.{Found}
@@ -12,6 +12,7 @@ use Rattle.report_steps.specs.Contexts.{Divided}
 use Rattle.report_steps.specs.Finding.{Finding}
 use Rattle.iso_report.specs.Jobs.{is_built}
 use Rattle.list_report.specs.Listings.{IsListFound}
+use Rattle.mode_report.specs.ModesFound.{AreModesFound}
 use Rattle.std.proofs.lemmas.Result.{IfOk-weaker}
 use Rattle.iso_report.specs.Found.{Finds, finding_of}
 use Rattle.report_steps.specs.Held.{IsInducedHeld, facts_in}
@@ -40,3 +41,12 @@ list-job-found j wanted after count tally d e b r h =
     let built = subst (λ (x : Job). is_built x ≡ true) e b in
     subst (λ (x : Job). IfOk r (Finds (IsFound x d))) (sym e)
     (IfOk-weaker r (Finds (IsListFound wanted after count d)) (Finds (IsFound (job.List wanted after count tally) d)) (λ st w. (list-job tally wanted after count d (finding_of st) built w.0, w.1)) h)
+
+-- modes
+pub modes-found : {E : Type 0} (j : Job) (direction : Option (Option (List ℕ) × ℕ)) (d : Divided) → j ≡ job.Modes direction → (r : Result (Step Found) E)
+    → IfOk r (Finds (IsFound (job.Modes direction) d)) → IfOk r (Finds (IsFound j d))
+modes-found j direction d e r h = subst (λ (x : Job). IfOk r (Finds (IsFound x d))) (sym e) h
+
+-- the modes of all orbits
+pub all-modes-found : {E : Type 0} (direction : Option (Option (List ℕ) × ℕ)) (d : Divided) → direction ≡ None → (r : Result (Step Found) E) → IfOk r (Finds (AreModesFound d)) → IfOk r (Finds (IsFound (job.Modes direction) d))
+all-modes-found direction d e r h = subst (λ (x : Option (Option (List ℕ) × ℕ)). IfOk r (Finds (IsFound (job.Modes x) d))) (sym e) h

@@ -1,5 +1,5 @@
 -- A file's bytes have one outcome.
-use Rattle.std.proofs.Common.{◌≡◌, ap, ◌∙◌, sym, subst, ℕ, List, Option, true, false}
+use Rattle.std.proofs.Common.{◌≡◌, ap, ◌∙◌, sym, subst, ℕ, List, Option, Some, None, true, false}
 use Rattle.iso_text.specs.FileValue.{File}
 use Rattle.iso_text.specs.declared.sections.IrrepText.{IrrepText}
 use Rattle.super_group.specs.Quotient.{SupercellGroup, IsQuotient}
@@ -15,6 +15,8 @@ use Rattle.report_steps.specs.Stages.{RefusesText, IsRead, RefusesParent, IsPare
 use Rattle.report_steps.specs.StepLaws.{IsSingle, IsSingleAt, single-at, FindsOneAt, After-single-at}
 use Rattle.report_steps.specs.Steps.{never}
 use Rattle.list_report.specs.Listings.{IsListFound}
+use Rattle.mode_report.specs.Atoms.{RefusesAtoms}
+use Rattle.mode_report.specs.ModesFound.{AreWideAll, AreToldOf, IsReported, AreModesFound}
 
 -- what is known of each step, and of what is found behind them
 pub record AreSettled : Type 0 where
@@ -26,17 +28,22 @@ pub record AreSettled : Type 0 where
   pub dimensions : (d : Divided) → IsQuotient d.quotient → IsSingleAt RefusesDimensions HaveInduced d
   pub facts : (q : SupercellGroup) → IsQuotient q → (irreps : List IrrepText) (fs gs : List Facts) → AreFacts q irreps fs → AreFacts q irreps gs → fs ≡ gs
   pub list : (d : Divided) → IsQuotient d.quotient → (wanted : Option (List ℕ)) (after : ℕ) (count : Option ℕ) → FindsOneAt (IsListFound wanted after count) d
+  pub modes : (d : Divided) → IsQuotient d.quotient → IsSingleAt RefusesAtoms AreToldOf d
 
 module _ (s : AreSettled) (j : Job) where
   module _ (d : Divided) (h : IsQuotient d.quotient) where
     checked-one : FindsOneAt IsChecked d
     checked-one f g (facts, a, e) (other, b, k) u v = e ∙ ap (λ (fs : List Facts). report (check_text d fs)) (s.facts d.quotient h d.file.irreps facts other a b) ∙ sym k
 
+    modes-one : FindsOneAt AreModesFound d
+    modes-one = After-single-at RefusesAtoms AreWideAll AreToldOf (IsReported d.file.format) d (s.modes d h) (λ told w f g e k u v. e ∙ sym k)
+
     job-found : (i : Job) → FindsOneAt (IsFound i) d
     job-found job.Check f g a b u v = checked-one f g a b u v
     job-found (job.List wanted after count false) f g a b u v = s.list d h wanted after count f g a b u v
     job-found (job.List wanted after count true) f g a b u v = absurd a
-    job-found (job.Modes direction) f g a b u v = absurd a
+    job-found (job.Modes None) f g a b u v = modes-one f g a b u v
+    job-found (job.Modes (Some direction)) f g a b u v = absurd a
     job-found job.Amps f g a b u v = absurd a
     job-found (job.Demo number) f g a b u v = absurd a
 

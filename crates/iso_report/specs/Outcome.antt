@@ -3,13 +3,14 @@
 -- IsChecked d f: what `check` finds; IsFound job d f: what a job finds behind the steps that all jobs share
 -- AfterText, AfterParent, AfterPhases, AfterOrder, AfterReps: what is found behind a step
 -- IsOutcome job bytes f: f is what the definitions say
-use Rattle.std.specs.Prelude.{◌≡◌, ℕ, List, true, false}
+use Rattle.std.specs.Prelude.{◌≡◌, ℕ, List, true, false, Some, None}
 use Rattle.iso_text.specs.FileValue.{File}
 use Rattle.iso_report.specs.declared.job.Job.{Job}
 use Rattle.iso_report.specs.declared.job.Job.TheVariants as job
 use Rattle.iso_report.specs.Check.{check_text}
 use Rattle.report_steps.specs.Contexts.{Parented, Divided}
 use Rattle.list_report.specs.Listings.{IsListFound}
+use Rattle.mode_report.specs.ModesFound.{AreModesFound}
 use Rattle.report_steps.specs.IrrepReport.{Facts, AreFacts}
 use Rattle.report_steps.specs.Stages.{RefusesText, IsRead, RefusesParent, IsParented, RefusesPhases, HavePhases, RefusesOrder, IsDivided, RefusesReps, AreWideReps, HaveReps, RefusesDimensions, AreWideInduced, HaveInduced}
 use Rattle.report_steps.specs.Steps.{After, never}
@@ -19,12 +20,13 @@ pub use Rattle.report_steps.specs.Finding.{Finding, report, refused}
 abbrev pub IsChecked : Divided → Finding → Type 0
 IsChecked d f = (facts : List Facts) × AreFacts d.quotient d.file.irreps facts × (f ≡ report (check_text d facts))
 
--- the report of `check` or `list`; jobs that are not built find nothing
+-- the report of `check`, `list` or `modes`; jobs that are not built find nothing
 abbrev pub IsFound : Job → Divided → Finding → Type 0
 IsFound job.Check d f = IsChecked d f
 IsFound (job.List wanted after count false) d f = IsListFound wanted after count d f
 IsFound (job.List wanted after count true) d f = ⊥
-IsFound (job.Modes direction) d f = ⊥
+IsFound (job.Modes None) d f = AreModesFound d f
+IsFound (job.Modes (Some direction)) d f = ⊥
 IsFound job.Amps d f = ⊥
 IsFound (job.Demo number) d f = ⊥
 

@@ -1,12 +1,15 @@
 // What is found for a file's bytes.
 ghost use Rattle.std.specs.Prelude.{◌≡◌, IfOk};
+ghost use Rattle.iso_text.specs.Ranges.{IsInRange};
 ghost use Rattle.iso_report.specs.Found.{text_of, IsFoundHeld, Finds};
 ghost use Rattle.report_steps.specs.HeldFiles.{AreInducedHeld};
 ghost use Rattle.list_report.specs.Listings.{IsListFound};
+ghost use Rattle.mode_report.specs.ModesFound.{AreModesFound};
 
 use crate::check::check_report;
 use iso_text::{Name, NoMemory, Text};
 use list_report::{ListedIrrep, list_found, listed_text};
+use mode_report::{FoundModes, modes_found, modes_text_of};
 use report_steps::{InducedFile, Step};
 use std::alloc::Global;
 
@@ -17,6 +20,8 @@ pub enum Found {
     Checked(InducedFile),
     /// The directions of an irrep.
     Listed(ListedIrrep),
+    /// The modes of the orbits of the atoms.
+    Modes(InducedFile, FoundModes),
 }
 
 /// The listing of the irrep of a name, or of the first of the file where none is named; or why there
@@ -37,6 +42,18 @@ pub fn found_listing(
     }
 }
 
+/// The modes of the orbits of the atoms of the file, or why there are none.
+pub fn found_modes(alloc: Global, file: InducedFile) -> Result<Step<Found>, NoMemory>
+    requires held { AreInducedHeld file }
+    requires ranged { IsInRange file.divided.file }
+    ensures { IfOk result (Finds (AreModesFound file.divided)) }
+{
+    match modes_found(alloc, &file)? {
+        Step::Passed(modes) => Ok(Step::Passed(Found::Modes(file, modes))),
+        Step::Refused(refusal) => Ok(Step::Refused(refusal)),
+    }
+}
+
 /// The bytes of the report.
 pub fn report_text(alloc: Global, found: &Found) -> Result<Text, NoMemory>
     requires { IsFoundHeld found.now }
@@ -45,5 +62,6 @@ pub fn report_text(alloc: Global, found: &Found) -> Result<Text, NoMemory>
     match found {
         Found::Checked(file) => check_report(alloc, file),
         Found::Listed(listed) => listed_text(alloc, listed),
+        Found::Modes(file, modes) => modes_text_of(alloc, file, modes),
     }
 }

@@ -32,14 +32,15 @@ pub enum Job {
 }
 
 impl Job {
-    /// Whether the job is built so far: `check`, and `list` without a tally.
+    /// Whether the job is built so far: `check`, `list` without a tally, and `modes` without a
+    /// direction.
     pub fn is_built(&self) -> bool
         ensures value { result ≡ is_built self.now }
     {
         match self {
             Job::Check => true,
             Job::List { tally, .. } => !tally,
-            Job::Modes { .. } => false,
+            Job::Modes { direction } => direction.is_none(),
             Job::Amps => false,
             Job::Demo { .. } => false,
         }

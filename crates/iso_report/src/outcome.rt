@@ -7,20 +7,38 @@ ghost use Rattle.iso_text.specs.Ranges.{IsInRange};
 ghost use Rattle.report_steps.specs.HeldFiles.{AreStarsHeld, AreCellsHeld, AreRepsHeld, AreInducedHeld};
 ghost use Rattle.iso_report.specs.Outcome.{IsFound, AfterText, AfterParent, AfterPhases, AfterOrder, AfterReps, IsOutcome};
 
-use crate::found::{Found, found_listing, report_text};
+use crate::found::{Found, found_listing, found_modes, report_text};
 use crate::job::Job;
 use crate::run_error::RunError;
-use iso_text::{Document, MAX_BYTES, NoMemory, Sink, put_all};
+use iso_text::{Document, MAX_BYTES, Name, NoMemory, Sink, put_all};
 use report_steps::{
     Celled, InducedFile, Parented, Refusal, Represented, Starred, Step, divide, induced_of,
     parent_of, read_file, reps_of, stars_of,
 };
 use std::alloc::Global;
 
+// The modes of all orbits.
+fn after_modes(
+    alloc: Global,
+    direction: Option<(Option<Name>, u64)>,
+    file: InducedFile,
+) -> Result<Step<Found>, NoMemory>
+    requires built { is_built (Job.Modes direction) ≡ true }
+    requires held { AreInducedHeld file }
+    requires ranged { IsInRange file.divided.file }
+    ensures { IfOk result (Finds (IsFound (Job.Modes direction) file.divided)) }
+{
+    match direction {
+        None => found_modes(alloc, file),
+        Some(_) => unreachable!(),
+    }
+}
+
 // What is found behind the representations that the small ones induce.
 fn after_induced(alloc: Global, job: &Job, file: InducedFile) -> Result<Step<Found>, NoMemory>
     requires built { is_built job.now ≡ true }
     requires held { AreInducedHeld file }
+    requires ranged { IsInRange file.divided.file }
     ensures { IfOk result (Finds (IsFound job.now file.divided)) }
 {
     match job {
@@ -31,7 +49,8 @@ fn after_induced(alloc: Global, job: &Job, file: InducedFile) -> Result<Step<Fou
             count,
             ..
         } => found_listing(alloc, file, *irrep, *after, *count),
-        Job::Modes { .. } | Job::Amps | Job::Demo { .. } => unreachable!(),
+        Job::Modes { direction } => after_modes(alloc, *direction, file),
+        Job::Amps | Job::Demo { .. } => unreachable!(),
     }
 }
 
@@ -39,6 +58,7 @@ fn after_induced(alloc: Global, job: &Job, file: InducedFile) -> Result<Step<Fou
 fn after_reps(alloc: Global, job: &Job, represented: Represented) -> Result<Step<Found>, NoMemory>
     requires built { is_built job.now ≡ true }
     requires held { AreRepsHeld represented }
+    requires ranged { IsInRange represented.divided.file }
     ensures { IfOk result (Finds (AfterReps job.now represented.divided)) }
 {
     match induced_of(alloc, represented)? {
@@ -51,6 +71,7 @@ fn after_reps(alloc: Global, job: &Job, represented: Represented) -> Result<Step
 fn after_order(alloc: Global, job: &Job, celled: Celled) -> Result<Step<Found>, NoMemory>
     requires built { is_built job.now ≡ true }
     requires held { AreCellsHeld celled }
+    requires ranged { IsInRange celled.divided.file }
     ensures { IfOk result (Finds (AfterOrder job.now celled.divided)) }
 {
     match reps_of(alloc, celled)? {
@@ -63,6 +84,7 @@ fn after_order(alloc: Global, job: &Job, celled: Celled) -> Result<Step<Found>, 
 fn after_phases(alloc: Global, job: &Job, starred: Starred) -> Result<Step<Found>, NoMemory>
     requires built { is_built job.now ≡ true }
     requires held { AreStarsHeld starred }
+    requires ranged { IsInRange starred.parented.file }
     ensures { IfOk result (Finds (AfterPhases job.now starred.parented)) }
 {
     match divide(alloc, starred)? {

@@ -14,4 +14,5 @@ returns c =
       dimensions = s.dimensions;
       facts = i.facts;
       list = c.law_of_list.ensures;
+      modes = c.law_of_modes_found.ensures;
     })

@@ -1,3 +1,6 @@
+use Rattle.std.proofs.Common.{subst, sym}
+use Rattle.iso_text.specs.Ranges.{IsInRange}
+use Rattle.report_steps.specs.Contexts.{Divided}
 use Rattle.iso_report.specs.Outcome.{AfterReps}
 use Rattle.report_steps.specs.Stages.{RefusesReps, AreWideReps, HaveReps}
 use Rattle.iso_report.specs.Found.{text_of, IsFoundHeld}
@@ -6,6 +9,11 @@ use Rattle.iso_report.proofs.outcome.after_order.Goals as goal
 
 pub after_reps-requires-clause-held : goal.after_reps-requires-clause-held
 after_reps-requires-clause-held c = (rw c.in-Passed.is at c.in_ok-represented.ensures).1
+
+pub after_reps-requires-clause-ranged : goal.after_reps-requires-clause-ranged
+after_reps-requires-clause-ranged c =
+    let passed = rw c.in-Passed.is at c.in_ok-represented.ensures in
+    subst (λ (d : Divided). IsInRange d.file) (sym passed.0.1) c.requires.ranged
 
 pub returns-in-Passed : goal.returns-in-Passed
 returns-in-Passed c =

@@ -1,3 +1,6 @@
+use Rattle.std.proofs.Common.{subst, sym}
+use Rattle.iso_text.specs.Ranges.{IsInRange}
+use Rattle.report_steps.specs.Contexts.{Parented}
 use Rattle.iso_report.specs.Outcome.{AfterPhases}
 use Rattle.report_steps.specs.Stages.{RefusesPhases, HavePhases}
 use Rattle.report_steps.specs.Steps.{never}
@@ -7,6 +10,11 @@ use Rattle.iso_report.proofs.outcome.after_parent.Goals as goal
 
 pub after_phases-requires-clause-held : goal.after_phases-requires-clause-held
 after_phases-requires-clause-held c = (rw c.in-Passed.is at c.in_ok-starred.ensures).1
+
+pub after_phases-requires-clause-ranged : goal.after_phases-requires-clause-ranged
+after_phases-requires-clause-ranged c =
+    let passed = rw c.in-Passed.is at c.in_ok-starred.ensures in
+    subst (λ (p : Parented). IsInRange p.file) (sym passed.0.1) c.requires.held
 
 pub returns-in-Passed : goal.returns-in-Passed
 returns-in-Passed c =

@@ -1,3 +1,5 @@
+use Rattle.std.proofs.Common.{subst, sym}
+use Rattle.iso_text.specs.Ranges.{IsInRange}
 use Rattle.iso_report.specs.Outcome.{AfterOrder}
 use Rattle.report_steps.specs.Stages.{RefusesOrder, IsDivided}
 use Rattle.report_steps.specs.Steps.{never}
@@ -7,6 +9,11 @@ use Rattle.iso_report.proofs.outcome.after_phases.Goals as goal
 
 pub after_order-requires-clause-held : goal.after_order-requires-clause-held
 after_order-requires-clause-held c = (rw c.in-Passed.is at c.in_ok-celled.ensures).1
+
+pub after_order-requires-clause-ranged : goal.after_order-requires-clause-ranged
+after_order-requires-clause-ranged c =
+    let passed = rw c.in-Passed.is at c.in_ok-celled.ensures in
+    subst IsInRange (sym passed.0.file_is) c.requires.ranged
 
 pub returns-in-Passed : goal.returns-in-Passed
 returns-in-Passed c =
