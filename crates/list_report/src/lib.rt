@@ -24,5 +24,5 @@ pub use closing::{closed, directions};
 pub use laws::{law_of_kept_lines, law_of_list, law_of_listing_steps, law_of_report_pages};
 pub use listed::{FormedIrrep, ListedIrrep};
 pub use listing::list_found;
-pub use realising::form_of;
-pub use report::listed_text;
+pub use realising::{form_at, form_of};
+pub use report::{listed_text, push_page};

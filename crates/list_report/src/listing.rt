@@ -2,33 +2,27 @@
 ghost use Rattle.std.specs.Prelude.{◌≡◌, ◌<◌, ◌≤◌, ℕ, IfOk, Some, slice_get, length};
 ghost use Rattle.iso_text.specs.declared.sections.IrrepText.{IrrepText as Irrep};
 ghost use Rattle.real_form.specs.RealForm.{quotient_of, action_of};
-ghost use Rattle.list_report.specs.Choice.{chosen_by, chosen_of};
+ghost use Rattle.list_report.specs.Choice.{chosen_of};
 ghost use Rattle.list_report.specs.FoundListing.{FindsListing};
-ghost use Rattle.report_steps.specs.Held.{IsInducedHeld};
 ghost use Rattle.report_steps.specs.HeldFiles.{AreInducedHeld};
-ghost use Rattle.report_steps.specs.IrrepSteps.{Each};
 ghost use Rattle.list_report.specs.HeldListings.{formed_by, formed_in, listed_in, IsFormedHeld, IsListingHeld, AreClosed, AreDirections};
 ghost use Rattle.list_report.specs.Closing.{IsListed};
-ghost use Rattle.list_report.specs.RealForms.{RefusesForm, IsWideFormOf, IsFormed};
 ghost use Rattle.list_report.specs.Listings.{AfterClosing, AfterForm, AfterChoice, IsListFound};
-ghost use Rattle.report_steps.specs.Steps.{Answers, OrWide, IfPassed};
 
 use crate::choice::place_of;
 use crate::closing::{closed, directions};
 use crate::listed::{FormedIrrep, ListedIrrep};
-use crate::realising::form_of;
+use crate::realising::form_at;
 use class_list::Listing;
 use cyclo24::K24;
 use fix_lattice::Subspaces;
-use induce::Induced;
-use iso_text::{IrrepText, Name, NoMemory};
+use iso_text::{Name, NoMemory};
 use lin_alg::{Acts, Steps};
 use real_form::RealForm;
 use report_steps::{InducedFile, Refusal, Step};
 use std::alloc::Global;
 use std::marker::Brand;
 use std::sync::ledger::{Blank, Ledger};
-use super_group::Quotient;
 
 // A listing with its irrep, and the page that is told.
 fn listed(formed: FormedIrrep, listing: Listing<K24>, after: u64, count: Option<u64>) -> ListedIrrep
@@ -95,37 +89,6 @@ fn after_form<L: Ledger>(
         Step::Passed(spaces) => after_closing(alloc, formed, spaces, after, count, &mut steps),
         Step::Refused(refusal) => Ok(Step::Refused(refusal)),
     }
-}
-
-// The real form of the irrep at a place.
-fn form_among(
-    alloc: Global,
-    quotient: &Quotient,
-    irreps: &[IrrepText],
-    all: &[Induced],
-    k: usize,
-) -> Result<Step<RealForm>, NoMemory>
-    requires held { Each (IsInducedHeld quotient.now) irreps.now all.now }
-    requires place { k < length irreps.now }
-    requires beside { k < length all.now }
-    ensures answer { (format : ℕ) (i : Irrep) → slice_get irreps.now k ≡ Some i → IfOk result (λ step. Answers (OrWide RefusesForm IsWideFormOf (chosen_by format quotient.now i)) (λ form. IsFormed (chosen_by format quotient.now i) (formed_by (chosen_by format quotient.now i) form)) step) }
-    ensures quotient { IfOk result (λ step. IfPassed step (λ form. quotient_of form ≡ quotient.now)) }
-    ensures few { IfOk result (λ step. IfPassed step (λ form. (action_of form).dim ≤ 24)) }
-{
-    form_of(alloc, quotient, &irreps[k], &all[k])
-}
-
-// The real form of the irrep of a file at a place.
-fn form_at(alloc: Global, file: &InducedFile, k: usize) -> Result<Step<RealForm>, NoMemory>
-    requires held { AreInducedHeld file.now }
-    requires place { k < length file.now.divided.file.irreps }
-    ensures answer { (i : Irrep) → slice_get file.now.divided.file.irreps k ≡ Some i → IfOk result (λ step. Answers (OrWide RefusesForm IsWideFormOf (chosen_of file.now.divided i)) (λ form. IsFormed (chosen_of file.now.divided i) (formed_by (chosen_of file.now.divided i) form)) step) }
-    ensures quotient { IfOk result (λ step. IfPassed step (λ form. quotient_of form ≡ file.now.divided.quotient)) }
-    ensures few { IfOk result (λ step. IfPassed step (λ form. (action_of form).dim ≤ 24)) }
-{
-    let quotient = file.divided.quotient();
-    let irreps = file.divided.document().irreps();
-    form_among(alloc, quotient, irreps, &file.irreps, k)
 }
 
 // The real form of the irrep at a place, with what the later steps use of the file.

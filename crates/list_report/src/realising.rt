@@ -1,5 +1,6 @@
 // The real form of an irrep.
-ghost use Rattle.std.specs.Prelude.{◌≡◌, ◌≤◌, ℕ, All, Some, None, IfOk, IfErr, map, length};
+ghost use Rattle.std.specs.Prelude.{◌≡◌, ◌<◌, ◌≤◌, ℕ, All, Some, None, IfOk, IfErr, map, length, slice_get};
+ghost use Rattle.iso_text.specs.declared.sections.IrrepText.{IrrepText as Irrep};
 ghost use Rattle.iso_text.specs.Ranges.{IsVector};
 ghost use Rattle.iso_text.specs.WordRanges.{IsNumber};
 ghost use Rattle.induce.specs.InducedView.{IsInducedOf};
@@ -7,8 +8,10 @@ ghost use Rattle.cyclo24.specs.Terms.{terms_value};
 ghost use Rattle.cyclo24.specs.Z24.{exact_z24};
 ghost use Rattle.induce.specs.Tables.{dimension_in};
 ghost use Rattle.real_form.specs.RealForm.{quotient_of, action_of};
-ghost use Rattle.list_report.specs.Choice.{chosen_by};
+ghost use Rattle.list_report.specs.Choice.{chosen_by, chosen_of};
 ghost use Rattle.report_steps.specs.Held.{IsInducedHeld};
+ghost use Rattle.report_steps.specs.HeldFiles.{AreInducedHeld};
+ghost use Rattle.report_steps.specs.IrrepSteps.{Each};
 ghost use Rattle.list_report.specs.HeldForms.{IsFormFound, IsFormCause};
 ghost use Rattle.list_report.specs.HeldListings.{formed_by};
 ghost use Rattle.list_report.specs.RealForms.{RefusesForm, IsWideFormOf, IsFormed, tried_of};
@@ -18,7 +21,7 @@ use cyclo24::Z24;
 use induce::Induced;
 use iso_text::{IrrepText, NoMemory, NumText, VectorText};
 use real_form::{FormError, RealForm};
-use report_steps::{Refusal, Step, add};
+use report_steps::{InducedFile, Refusal, Step, add};
 use std::alloc::Global;
 use super_group::Quotient;
 
@@ -101,4 +104,35 @@ pub fn form_of(
         Err(FormError::Wide(family)) => Ok(Step::Refused(Refusal::Wide(family))),
         Err(FormError::NoMemory) => Err(NoMemory),
     }
+}
+
+// The real form of the irrep at a place.
+fn form_among(
+    alloc: Global,
+    quotient: &Quotient,
+    irreps: &[IrrepText],
+    all: &[Induced],
+    k: usize,
+) -> Result<Step<RealForm>, NoMemory>
+    requires held { Each (IsInducedHeld quotient.now) irreps.now all.now }
+    requires place { k < length irreps.now }
+    requires beside { k < length all.now }
+    ensures answer { (format : ℕ) (i : Irrep) → slice_get irreps.now k ≡ Some i → IfOk result (λ step. Answers (OrWide RefusesForm IsWideFormOf (chosen_by format quotient.now i)) (λ form. IsFormed (chosen_by format quotient.now i) (formed_by (chosen_by format quotient.now i) form)) step) }
+    ensures quotient { IfOk result (λ step. IfPassed step (λ form. quotient_of form ≡ quotient.now)) }
+    ensures few { IfOk result (λ step. IfPassed step (λ form. (action_of form).dim ≤ 24)) }
+{
+    form_of(alloc, quotient, &irreps[k], &all[k])
+}
+
+/// The real form of the irrep of a file at a place, or why there is none.
+pub fn form_at(alloc: Global, file: &InducedFile, k: usize) -> Result<Step<RealForm>, NoMemory>
+    requires held { AreInducedHeld file.now }
+    requires place { k < length file.now.divided.file.irreps }
+    ensures answer { (i : Irrep) → slice_get file.now.divided.file.irreps k ≡ Some i → IfOk result (λ step. Answers (OrWide RefusesForm IsWideFormOf (chosen_of file.now.divided i)) (λ form. IsFormed (chosen_of file.now.divided i) (formed_by (chosen_of file.now.divided i) form)) step) }
+    ensures quotient { IfOk result (λ step. IfPassed step (λ form. quotient_of form ≡ file.now.divided.quotient)) }
+    ensures few { IfOk result (λ step. IfPassed step (λ form. (action_of form).dim ≤ 24)) }
+{
+    let quotient = file.divided.quotient();
+    let irreps = file.divided.document().irreps();
+    form_among(alloc, quotient, irreps, &file.irreps, k)
 }

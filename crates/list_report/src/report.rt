@@ -3,7 +3,7 @@ ghost use Rattle.std.specs.Prelude.{◌≡◌, ◌<◌, ◌≤◌, ◌+◌, ◌+
 ghost use Rattle.std.specs.List.{enumerate_from};
 ghost use Rattle.cyclo24.specs.ExactK24.{k24_laws};
 ghost use Rattle.cyclo24.specs.K24.{exact24};
-ghost use Rattle.class_list.specs.Pages.{directions_at};
+ghost use Rattle.class_list.specs.Pages.{directions_at, page};
 ghost use Rattle.class_list.specs.Seen.{DirectionView, direction_of, directions_of};
 ghost use Rattle.iso_text.specs.Lines.{line};
 ghost use Rattle.super_group.specs.Quotient.{order_of};
@@ -183,6 +183,25 @@ fn head_of_report(
     Ok(text)
 }
 
+/// Adds the lines of the directions of the page that skips `after` directions and has at most `count`,
+/// or all: each with its form, its kept translations and its operations.
+pub fn push_page(
+    alloc: Global,
+    text: &mut Text,
+    quotient: &Quotient,
+    dim: usize,
+    listing: &Listing<K24>,
+    after: u64,
+    count: Option<u64>,
+) -> Result<(), NoMemory>
+    requires reportable { AreReportable quotient.now dim listing.now }
+    requires few { dim ≤ 24 }
+    ensures { OnOk result (text.new ≡ text.old ++ flat_map (direction_text quotient.now dim) (page after count (directions_of k24_laws exact24 listing.now))) }
+{
+    let (first, last) = listing.page(after, count);
+    push_places(alloc, text, quotient, dim, listing, first, last)
+}
+
 // The report on the listing of an irrep of real dimension `dim`, with the directions of the page that
 // skips `after` directions and has at most `count`, or all.
 fn listing_report(
@@ -199,10 +218,9 @@ fn listing_report(
     requires few { dim ≤ 24 }
     ensures { IfOk result (λ text. text ≡ listing_text format name.now quotient.now dim after count (directions_of k24_laws exact24 listing.now)) }
 {
-    let (first, last) = listing.page(after, count);
     let order = quotient.order();
     let mut text = head_of_report(alloc, format, name, dim, order, listing.len())?;
-    push_places(alloc, &mut text, quotient, dim, listing, first, last)?;
+    push_page(alloc, &mut text, quotient, dim, listing, after, count)?;
     Ok(text)
 }
 

@@ -5,6 +5,7 @@ pub mod GeneratorLemmas
 pub mod HeldLemmas
 pub mod InducedUniqueLemmas
 pub mod IrrepUniqueLemmas
+pub mod PlaceLemmas
 pub mod ReadUniqueLemmas
 pub mod RepLemmas
 pub mod StageLemmas

@@ -28,6 +28,8 @@ pub mod InducedLaws
 pub mod Stages
 -- the texts of fractions
 pub mod Fractions
+-- the texts of places
+pub mod Places
 -- the lines of operations in a report
 pub mod OpLines
 -- what is told of an irrep

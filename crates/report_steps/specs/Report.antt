@@ -1,6 +1,6 @@
 -- The texts of refusals.
 --
--- irrep_words name what: what is wrong with an irrep; line_words n what: with a line
+-- irrep_words name what: what is wrong with an irrep; irreps_words name other what: with two; line_words n what: with a line
 -- wanted_words wanted: a name that was asked for
 -- refusal_text r: the text of a refusal; line_of r: its line on err
 use Rattle.std.specs.Prelude.{ℕ, List, [], ◌++◌, Option, Some, None, codes, decimal}
@@ -9,12 +9,17 @@ use Rattle.cyclo24.specs.TextK24.{text24}
 use Rattle.space_ops.specs.OpText.{text_of}
 use Rattle.iso_text.specs.Lines.{line}
 use Rattle.report_steps.specs.Fractions.{frac_text}
+use Rattle.report_steps.specs.Places.{place_text}
 use Rattle.report_steps.specs.declared.refusal.Refusal.{Refusal}
 use Rattle.report_steps.specs.declared.refusal.Refusal.TheVariants as refusal
 
 -- what is wrong with the irrep of this name
 abbrev pub irrep_words : List ℕ → List ℕ → List ℕ
 irrep_words name what = codes "irrep " ++ name ++ what
+
+-- what is wrong with the irreps of these names together
+abbrev pub irreps_words : List ℕ → List ℕ → List ℕ → List ℕ
+irreps_words name other what = codes "irreps " ++ name ++ codes " " ++ other ++ what
 
 -- what is wrong with the line of this number
 abbrev pub line_words : ℕ → List ℕ → List ℕ
@@ -49,6 +54,13 @@ refusal_text (refusal.TooManySubspaces name limit) = irrep_words name (codes ": 
 refusal_text (refusal.NoSuchDirection name number) = irrep_words name (codes ": no direction ") ++ decimal number
 refusal_text (refusal.SameSite earlier n) = codes "lines " ++ decimal earlier ++ codes " and " ++ decimal n ++ codes ": one orbit"
 refusal_text (refusal.TooManyAtoms n size) = line_words n (codes ": orbit of ") ++ decimal size ++ codes " coordinates is past 1152"
+refusal_text (refusal.BadCell n) = line_words n (codes ": bad cell")
+refusal_text (refusal.OffGrid n) = line_words n (codes ": place isn't on the grid")
+refusal_text (refusal.Unmatched n) = line_words n (codes ": unmatched atom")
+refusal_text (refusal.Ambiguous n) = line_words n (codes ": ambiguous atom")
+refusal_text (refusal.MissingAtom label place) = codes "no listed atom for " ++ label ++ codes " " ++ place_text place
+refusal_text (refusal.TooManyCoupled name other n) = irreps_words name other (codes ": real dimension ") ++ decimal n ++ codes " is past 24"
+refusal_text (refusal.CoupledSubspaces name other limit) = irreps_words name other (codes ": more than ") ++ decimal limit ++ codes " fixed subspaces"
 refusal_text (refusal.Wide family) = codes "number past 126 bits in family " ++ decimal family
 refusal_text refusal.NotBuilt = codes "not built"
 

@@ -1,8 +1,9 @@
 // Why a file is refused.
 ghost use Rattle.std.specs.Prelude.{◌≡◌, IfOk};
-ghost use Rattle.report_steps.specs.Report.{irrep_words, line_words, line_of, refusal_text};
+ghost use Rattle.report_steps.specs.Report.{irrep_words, irreps_words, line_words, line_of, refusal_text};
 
 use crate::fraction::fraction_text;
+use crate::place::place_text;
 use cyclo24::K24;
 use iso_text::{Frac, Name, NoMemory, Text};
 use space_ops::Op;
@@ -59,6 +60,21 @@ pub enum Refusal {
     SameSite(u32, u32),
     /// The orbit of the atom line of this number has so many coordinates, which are past 1,152.
     TooManyAtoms(u32, u32),
+    /// The cell of the line of this number is singular, or its columns are no lattice translations of
+    /// which those of the supercell are whole combinations.
+    BadCell(u32),
+    /// The place of the listed line of this number, carried by the cell, is no whole number of units.
+    OffGrid(u32),
+    /// A place of the listed line of this number matches no atom.
+    Unmatched(u32),
+    /// A place of the listed line of this number matches two atoms, or one that an earlier place matches.
+    Ambiguous(u32),
+    /// No listed place matches the atom of this label at this place, in units; the first such atom.
+    MissingAtom(Name, [i64; 3]),
+    /// The real dimensions of the irreps of these names together, which are past 24.
+    TooManyCoupled(Name, Name, u32),
+    /// The irreps of these names together have more fixed subspaces than this limit.
+    CoupledSubspaces(Name, Name, u32),
     /// A number of this family of numbers passes 126 bits.
     Wide(u8),
     /// The words or the file are beyond what is built so far.
@@ -72,6 +88,19 @@ fn irrep_text(alloc: Global, name: &Name, what: &[u8]) -> Result<Text, NoMemory>
     let mut text = Text::new(alloc);
     text.push(b"irrep ")?;
     text.push(name.as_slice())?;
+    text.push(what)?;
+    Ok(text)
+}
+
+// The names of two irreps, and what is wrong with them together.
+fn irreps_text(alloc: Global, name: &Name, other: &Name, what: &[u8]) -> Result<Text, NoMemory>
+    ensures { IfOk result (λ text. text ≡ irreps_words name.now other.now what.now) }
+{
+    let mut text = Text::new(alloc);
+    text.push(b"irreps ")?;
+    text.push(name.as_slice())?;
+    text.push(b" ")?;
+    text.push(other.as_slice())?;
     text.push(what)?;
     Ok(text)
 }
@@ -223,6 +252,43 @@ fn atoms_text(alloc: Global, line: u32, size: u32) -> Result<Text, NoMemory>
     Ok(text)
 }
 
+// The text of an atom that no listed place matches.
+fn missing_atom_text(alloc: Global, label: &Name, place: &[i64; 3]) -> Result<Text, NoMemory>
+    ensures { IfOk result (λ text. text ≡ refusal_text (Refusal.MissingAtom label.now place.now)) }
+{
+    let mut text = Text::new(alloc);
+    text.push(b"no listed atom for ")?;
+    text.push(label.as_slice())?;
+    text.push(b" ")?;
+    text.push(place_text(alloc, place)?.as_slice())?;
+    Ok(text)
+}
+
+// The text of two irreps with too many dimensions together.
+fn coupled_text(alloc: Global, name: &Name, other: &Name, n: u32) -> Result<Text, NoMemory>
+    ensures { IfOk result (λ text. text ≡ refusal_text (Refusal.TooManyCoupled name.now other.now n)) }
+{
+    let mut text = irreps_text(alloc, name, other, b": real dimension ")?;
+    text.push_number(u64::from(n))?;
+    text.push(b" is past 24")?;
+    Ok(text)
+}
+
+// The text of two irreps with too many fixed subspaces together.
+fn coupled_subspaces_text(
+    alloc: Global,
+    name: &Name,
+    other: &Name,
+    limit: u32,
+) -> Result<Text, NoMemory>
+    ensures { IfOk result (λ text. text ≡ refusal_text (Refusal.CoupledSubspaces name.now other.now limit)) }
+{
+    let mut text = irreps_text(alloc, name, other, b": more than ")?;
+    text.push_number(u64::from(limit))?;
+    text.push(b" fixed subspaces")?;
+    Ok(text)
+}
+
 // The text of a family of numbers that is wide.
 fn wide_text(alloc: Global, family: u8) -> Result<Text, NoMemory>
     ensures { IfOk result (λ text. text ≡ refusal_text (Refusal.Wide family)) }
@@ -259,6 +325,15 @@ fn text_of_refusal(alloc: Global, refusal: &Refusal) -> Result<Text, NoMemory>
         Refusal::NoSuchDirection(name, number) => direction_text(alloc, name, *number),
         Refusal::SameSite(earlier, line) => same_site_text(alloc, *earlier, *line),
         Refusal::TooManyAtoms(line, size) => atoms_text(alloc, *line, *size),
+        Refusal::BadCell(n) => line_text(alloc, *n, b": bad cell"),
+        Refusal::OffGrid(n) => line_text(alloc, *n, b": place isn't on the grid"),
+        Refusal::Unmatched(n) => line_text(alloc, *n, b": unmatched atom"),
+        Refusal::Ambiguous(n) => line_text(alloc, *n, b": ambiguous atom"),
+        Refusal::MissingAtom(label, place) => missing_atom_text(alloc, label, place),
+        Refusal::TooManyCoupled(name, other, n) => coupled_text(alloc, name, other, *n),
+        Refusal::CoupledSubspaces(name, other, limit) => {
+            coupled_subspaces_text(alloc, name, other, *limit)
+        }
         Refusal::Wide(family) => wide_text(alloc, *family),
         Refusal::NotBuilt => plain_text(alloc, b"not built"),
     }

@@ -4,7 +4,7 @@ use Rattle.iso_text.specs.declared.sections.IrrepText.{IrrepText}
 use Rattle.report_steps.specs.Held.{IsInducedHeld}
 use Rattle.report_steps.specs.EachLaws.{each-at}
 use Rattle.list_report.proofs.ListingLemmas.{answer-at}
-use Rattle.list_report.proofs.listing.form_among.Goals as goal
+use Rattle.list_report.proofs.realising.form_among.Goals as goal
 
 pub form_of-requires : goal.form_of-requires
 form_of-requires c =

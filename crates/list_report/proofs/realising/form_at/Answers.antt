@@ -5,7 +5,7 @@ use Rattle.iso_text.specs.declared.sections.IrrepText.{IrrepText}
 use Rattle.report_steps.specs.Held.{IsInducedHeld}
 use Rattle.report_steps.specs.EachLaws.{each-length}
 use Rattle.list_report.proofs.ListingLemmas.{answer-moved}
-use Rattle.list_report.proofs.listing.form_at.Goals as goal
+use Rattle.list_report.proofs.realising.form_at.Goals as goal
 
 pub form_among-requires-clause-beside : goal.form_among-requires-clause-beside
 form_among-requires-clause-beside c =
