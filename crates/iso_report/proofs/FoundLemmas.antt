@@ -1,5 +1,5 @@
 -- What is found behind the steps that all jobs share, by the program's values.
-use Rattle.std.proofs.Common.{◌≡◌, refl, sym, subst, map, ℕ, Bool, true, false, List, Option, None, Result, IfOk}
+use Rattle.std.proofs.Common.{◌≡◌, refl, sym, subst, map, ℕ, Bool, true, false, List, Option, Some, None, Result, IfOk}
 use Rattle.std.proofs.lemmas.Bool.{true≢false}
 use Rattle.report_steps.specs.declared.context.InducedFile.{InducedFile}
 use Rattle.iso_report.specs.declared.found.Found.{Found}
@@ -12,6 +12,7 @@ use Rattle.report_steps.specs.Contexts.{Divided}
 use Rattle.report_steps.specs.Finding.{Finding}
 use Rattle.iso_report.specs.Jobs.{is_built}
 use Rattle.list_report.specs.Listings.{IsListFound}
+use Rattle.mode_report.specs.DirectionFound.{IsFoundAlong}
 use Rattle.mode_report.specs.ModesFound.{AreModesFound}
 use Rattle.std.proofs.lemmas.Result.{IfOk-weaker}
 use Rattle.iso_report.specs.Found.{Finds, finding_of}
@@ -50,3 +51,8 @@ modes-found j direction d e r h = subst (λ (x : Job). IfOk r (Finds (IsFound x 
 -- the modes of all orbits
 pub all-modes-found : {E : Type 0} (direction : Option (Option (List ℕ) × ℕ)) (d : Divided) → direction ≡ None → (r : Result (Step Found) E) → IfOk r (Finds (AreModesFound d)) → IfOk r (Finds (IsFound (job.Modes direction) d))
 all-modes-found direction d e r h = subst (λ (x : Option (Option (List ℕ) × ℕ)). IfOk r (Finds (IsFound (job.Modes x) d))) (sym e) h
+
+-- those that a direction allows
+pub along-found : {E : Type 0} (direction : Option (Option (List ℕ) × ℕ)) (wanted : Option (List ℕ)) (number : ℕ) (d : Divided) → direction ≡ Some (wanted, number) → (r : Result (Step Found) E)
+    → IfOk r (Finds (IsFoundAlong wanted number d)) → IfOk r (Finds (IsFound (job.Modes direction) d))
+along-found direction wanted number d e r h = subst (λ (x : Option (Option (List ℕ) × ℕ)). IfOk r (Finds (IsFound (job.Modes x) d))) (sym e) h

@@ -16,6 +16,7 @@ use Rattle.report_steps.specs.StepLaws.{IsSingle, IsSingleAt, single-at, FindsOn
 use Rattle.report_steps.specs.Steps.{never}
 use Rattle.list_report.specs.Listings.{IsListFound}
 use Rattle.mode_report.specs.Atoms.{RefusesAtoms}
+use Rattle.mode_report.specs.DirectionFound.{IsFoundAlong}
 use Rattle.mode_report.specs.ModesFound.{AreWideAll, AreToldOf, IsReported, AreModesFound}
 
 -- what is known of each step, and of what is found behind them
@@ -29,6 +30,7 @@ pub record AreSettled : Type 0 where
   pub facts : (q : SupercellGroup) → IsQuotient q → (irreps : List IrrepText) (fs gs : List Facts) → AreFacts q irreps fs → AreFacts q irreps gs → fs ≡ gs
   pub list : (d : Divided) → IsQuotient d.quotient → (wanted : Option (List ℕ)) (after : ℕ) (count : Option ℕ) → FindsOneAt (IsListFound wanted after count) d
   pub modes : (d : Divided) → IsQuotient d.quotient → IsSingleAt RefusesAtoms AreToldOf d
+  pub along : (d : Divided) → IsQuotient d.quotient → (wanted : Option (List ℕ)) (number : ℕ) → FindsOneAt (IsFoundAlong wanted number) d
 
 module _ (s : AreSettled) (j : Job) where
   module _ (d : Divided) (h : IsQuotient d.quotient) where
@@ -43,7 +45,7 @@ module _ (s : AreSettled) (j : Job) where
     job-found (job.List wanted after count false) f g a b u v = s.list d h wanted after count f g a b u v
     job-found (job.List wanted after count true) f g a b u v = absurd a
     job-found (job.Modes None) f g a b u v = modes-one f g a b u v
-    job-found (job.Modes (Some direction)) f g a b u v = absurd a
+    job-found (job.Modes (Some (wanted, number))) f g a b u v = s.along d h wanted number f g a b u v
     job-found job.Amps f g a b u v = absurd a
     job-found (job.Demo number) f g a b u v = absurd a
 

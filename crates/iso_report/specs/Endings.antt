@@ -2,7 +2,8 @@
 --
 -- Change: a sink before and after a call; Grew, GrewByPrefix, HasFailed: what happened to it
 -- RunIsDone job bytes out, RunFails job bytes out e: a run that is done, or failed
-use Rattle.std.specs.Prelude.{◌⊎◌, ℕ, List, [], Option}
+-- HasNoReport job bytes e: why there is no report to write
+use Rattle.std.specs.Prelude.{⊤, ◌⊎◌, ℕ, List, [], Option}
 use Rattle.iso_text.specs.Counts.{HasRisen}
 use Rattle.iso_text.specs.Streams.{GrownBy, GrownByPrefix}
 use Rattle.iso_report.specs.declared.job.Job.{Job}
@@ -48,3 +49,9 @@ abbrev pub RunFails : Job → List ℕ → Change → RunError → Type 0
 RunFails job bytes out (run_error.Refused r) = IsOutcome job bytes (refused r) × Grew [] out
 RunFails job bytes out run_error.WriteFault = IsBrokenOff job bytes out
 RunFails job bytes out run_error.NoMemory = IsCutShort job bytes out
+
+-- a refusal, or want of memory
+abbrev pub HasNoReport : Job → List ℕ → RunError → Type 0
+HasNoReport job bytes (run_error.Refused r) = IsOutcome job bytes (refused r)
+HasNoReport job bytes run_error.WriteFault = ⊥
+HasNoReport job bytes run_error.NoMemory = ⊤

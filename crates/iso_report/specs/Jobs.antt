@@ -1,15 +1,14 @@
 -- The jobs that are built.
 --
 -- is_built job: the job is built so far
-use Rattle.std.specs.Prelude.{Bool, true, false, not, Some, None}
+use Rattle.std.specs.Prelude.{Bool, true, false, not}
 use Rattle.iso_report.specs.declared.job.Job.{Job}
 use Rattle.iso_report.specs.declared.job.Job.TheVariants as job
 
--- `check`, `list` without a tally, and `modes` of all orbits
+-- `check`, `list` without a tally, and `modes`
 abbrev pub is_built : Job → Bool
 is_built job.Check = true
 is_built (job.List irrep after count tally) = not tally
-is_built (job.Modes None) = true
-is_built (job.Modes (Some direction)) = false
+is_built (job.Modes direction) = true
 is_built job.Amps = false
 is_built (job.Demo number) = false

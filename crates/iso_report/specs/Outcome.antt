@@ -11,6 +11,7 @@ use Rattle.iso_report.specs.Check.{check_text}
 use Rattle.report_steps.specs.Contexts.{Parented, Divided}
 use Rattle.list_report.specs.Listings.{IsListFound}
 use Rattle.mode_report.specs.ModesFound.{AreModesFound}
+use Rattle.mode_report.specs.DirectionFound.{IsFoundAlong}
 use Rattle.report_steps.specs.IrrepReport.{Facts, AreFacts}
 use Rattle.report_steps.specs.Stages.{RefusesText, IsRead, RefusesParent, IsParented, RefusesPhases, HavePhases, RefusesOrder, IsDivided, RefusesReps, AreWideReps, HaveReps, RefusesDimensions, AreWideInduced, HaveInduced}
 use Rattle.report_steps.specs.Steps.{After, never}
@@ -26,7 +27,7 @@ IsFound job.Check d f = IsChecked d f
 IsFound (job.List wanted after count false) d f = IsListFound wanted after count d f
 IsFound (job.List wanted after count true) d f = ⊥
 IsFound (job.Modes None) d f = AreModesFound d f
-IsFound (job.Modes (Some direction)) d f = ⊥
+IsFound (job.Modes (Some (wanted, number))) d f = IsFoundAlong wanted number d f
 IsFound job.Amps d f = ⊥
 IsFound (job.Demo number) d f = ⊥
 

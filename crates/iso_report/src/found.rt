@@ -4,12 +4,13 @@ ghost use Rattle.iso_text.specs.Ranges.{IsInRange};
 ghost use Rattle.iso_report.specs.Found.{text_of, IsFoundHeld, Finds};
 ghost use Rattle.report_steps.specs.HeldFiles.{AreInducedHeld};
 ghost use Rattle.list_report.specs.Listings.{IsListFound};
+ghost use Rattle.mode_report.specs.DirectionFound.{IsFoundAlong};
 ghost use Rattle.mode_report.specs.ModesFound.{AreModesFound};
 
 use crate::check::check_report;
 use iso_text::{Name, NoMemory, Text};
 use list_report::{ListedIrrep, list_found, listed_text};
-use mode_report::{FoundModes, modes_found, modes_text_of};
+use mode_report::{FoundModes, ModesAlong, along_report, modes_along, modes_found, modes_text_of};
 use report_steps::{InducedFile, Step};
 use std::alloc::Global;
 
@@ -22,6 +23,8 @@ pub enum Found {
     Listed(ListedIrrep),
     /// The modes of the orbits of the atoms.
     Modes(InducedFile, FoundModes),
+    /// Those that a direction allows.
+    Along(ModesAlong),
 }
 
 /// The listing of the irrep of a name, or of the first of the file where none is named; or why there
@@ -54,6 +57,24 @@ pub fn found_modes(alloc: Global, file: InducedFile) -> Result<Step<Found>, NoMe
     }
 }
 
+/// The modes that the direction of this number, from 1, of the irrep of a name allows, or of the first
+/// of the file where none is named; or why there are none.
+pub fn found_along(
+    alloc: Global,
+    file: InducedFile,
+    wanted: Option<Name>,
+    number: u64,
+) -> Result<Step<Found>, NoMemory>
+    requires held { AreInducedHeld file }
+    requires ranged { IsInRange file.divided.file }
+    ensures { IfOk result (Finds (IsFoundAlong wanted number file.divided)) }
+{
+    match modes_along(alloc, file, wanted, number)? {
+        Step::Passed(along) => Ok(Step::Passed(Found::Along(along))),
+        Step::Refused(refusal) => Ok(Step::Refused(refusal)),
+    }
+}
+
 /// The bytes of the report.
 pub fn report_text(alloc: Global, found: &Found) -> Result<Text, NoMemory>
     requires { IsFoundHeld found.now }
@@ -63,5 +84,6 @@ pub fn report_text(alloc: Global, found: &Found) -> Result<Text, NoMemory>
         Found::Checked(file) => check_report(alloc, file),
         Found::Listed(listed) => listed_text(alloc, listed),
         Found::Modes(file, modes) => modes_text_of(alloc, file, modes),
+        Found::Along(along) => along_report(alloc, along),
     }
 }

@@ -32,15 +32,14 @@ pub enum Job {
 }
 
 impl Job {
-    /// Whether the job is built so far: `check`, `list` without a tally, and `modes` without a
-    /// direction.
+    /// Whether the job is built so far: `check`, `list` without a tally, and `modes`.
     pub fn is_built(&self) -> bool
         ensures value { result ≡ is_built self.now }
     {
         match self {
             Job::Check => true,
             Job::List { tally, .. } => !tally,
-            Job::Modes { direction } => direction.is_none(),
+            Job::Modes { .. } => true,
             Job::Amps => false,
             Job::Demo { .. } => false,
         }

@@ -3,7 +3,7 @@ ghost use Rattle.iso_report.specs.OutcomeLaws.{HasOneOutcome};
 
 use crate::job::Job;
 use list_report::law_of_list;
-use mode_report::law_of_modes_found;
+use mode_report::{law_of_modes_along, law_of_modes_found};
 use report_steps::{law_of_irreps, law_of_steps};
 
 /// Each job finds at most one thing in the bytes of a file.
@@ -14,4 +14,5 @@ pub fn law_of_outcomes()
     law_of_irreps();
     law_of_list();
     law_of_modes_found();
+    law_of_modes_along();
 }

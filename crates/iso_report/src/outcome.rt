@@ -1,36 +1,37 @@
 // A job over a file's bytes.
-ghost use Rattle.std.specs.Prelude.{◌≡◌, ◌≤◌, true, length, IfOk, IsErrOf, MatchResult};
-ghost use Rattle.iso_report.specs.Endings.{RunIsDone, RunFails, change};
-ghost use Rattle.iso_report.specs.Found.{Finds};
+ghost use Rattle.std.specs.Prelude.{◌≡◌, ◌≤◌, true, length, IfOk, IfErr, IsErrOf, MatchResult};
+ghost use Rattle.iso_report.specs.Endings.{RunIsDone, RunFails, HasNoReport, change};
+ghost use Rattle.iso_report.specs.Found.{text_of, IsFoundHeld, Finds};
+ghost use Rattle.iso_report.specs.declared.run_error.RunError.TheVariants as run_error;
+ghost use Rattle.report_steps.specs.Finding.{report};
 ghost use Rattle.iso_report.specs.Jobs.{is_built};
 ghost use Rattle.iso_text.specs.Ranges.{IsInRange};
 ghost use Rattle.report_steps.specs.HeldFiles.{AreStarsHeld, AreCellsHeld, AreRepsHeld, AreInducedHeld};
 ghost use Rattle.iso_report.specs.Outcome.{IsFound, AfterText, AfterParent, AfterPhases, AfterOrder, AfterReps, IsOutcome};
 
-use crate::found::{Found, found_listing, found_modes, report_text};
+use crate::found::{Found, found_along, found_listing, found_modes, report_text};
 use crate::job::Job;
 use crate::run_error::RunError;
-use iso_text::{Document, MAX_BYTES, Name, NoMemory, Sink, put_all};
+use iso_text::{Document, MAX_BYTES, Name, NoMemory, Sink, Text, put_all};
 use report_steps::{
     Celled, InducedFile, Parented, Refusal, Represented, Starred, Step, divide, induced_of,
     parent_of, read_file, reps_of, stars_of,
 };
 use std::alloc::Global;
 
-// The modes of all orbits.
+// The modes of all orbits, or those that a direction allows.
 fn after_modes(
     alloc: Global,
     direction: Option<(Option<Name>, u64)>,
     file: InducedFile,
 ) -> Result<Step<Found>, NoMemory>
-    requires built { is_built (Job.Modes direction) ≡ true }
     requires held { AreInducedHeld file }
     requires ranged { IsInRange file.divided.file }
     ensures { IfOk result (Finds (IsFound (Job.Modes direction) file.divided)) }
 {
     match direction {
         None => found_modes(alloc, file),
-        Some(_) => unreachable!(),
+        Some((wanted, number)) => found_along(alloc, file, wanted, number),
     }
 }
 
@@ -129,6 +130,31 @@ fn find(alloc: Global, job: &Job, bytes: &[u8]) -> Result<Step<Found>, NoMemory>
     }
 }
 
+// The text of what was found.
+fn text_found(alloc: Global, found: Found) -> Result<Text, RunError>
+    requires { IsFoundHeld found }
+    ensures text { IfOk result (λ text. text ≡ text_of found) }
+    ensures error { IfErr result (λ e. e ≡ run_error.NoMemory) }
+{
+    match report_text(alloc, &found) {
+        Ok(text) => Ok(text),
+        Err(_) => Err(RunError::NoMemory),
+    }
+}
+
+// The text of the report of a job over a file's bytes, or why there is none.
+fn report_of(alloc: Global, job: &Job, bytes: &[u8]) -> Result<Text, RunError>
+    requires built { is_built job.now ≡ true }
+    requires few { length bytes.now ≤ MAX_BYTES }
+    ensures { MatchResult result (λ text. IsOutcome job.now bytes.now (report text)) (HasNoReport job.now bytes.now) }
+{
+    match find(alloc, job, bytes) {
+        Ok(Step::Passed(found)) => text_found(alloc, found),
+        Ok(Step::Refused(refusal)) => Err(RunError::Refused(refusal)),
+        Err(_) => Err(RunError::NoMemory),
+    }
+}
+
 /// Writes the report of a job over a file's bytes on out, or says why not. A job that is built, and
 /// at most `MAX_BYTES` bytes.
 ///
@@ -143,13 +169,9 @@ pub fn run<O: Sink>(alloc: Global, job: &Job, bytes: &[u8], out: &mut O) -> Resu
     ensures untouched { (r : Refusal) → IsErrOf result (RunError.Refused r) → out.new ≡ out.old }
     ensures faults { O.faults out.old ≤ O.faults out.new }
 {
-    let found = match find(alloc, job, bytes) {
-        Ok(Step::Passed(found)) => found,
-        Ok(Step::Refused(refusal)) => return Err(RunError::Refused(refusal)),
-        Err(_) => return Err(RunError::NoMemory),
-    };
-    let Ok(text) = report_text(alloc, &found) else {
-        return Err(RunError::NoMemory);
+    let text = match report_of(alloc, job, bytes) {
+        Ok(text) => text,
+        Err(error) => return Err(error),
     };
     match put_all(out, text.as_slice()) {
         Ok(()) => Ok(()),

@@ -1,5 +1,5 @@
 -- The atom line that is refused is one, and with it there are no orbits.
-use Rattle.std.proofs.Common.{◌≡◌, refl, sym, ap, ◌∙◌, subst, ◌⊎◌, inl, inr, ℕ, ◌<◌, ◌*◌, List, length, Some, slice_get}
+use Rattle.std.proofs.Common.{◌≡◌, sym, ap, ◌∙◌, subst, ◌⊎◌, inl, inr, ℕ, ◌<◌, ◌*◌, List, length, Some, slice_get}
 use Rattle.std.proofs.lemmas.Option.{same_Some, slice_get_within}
 use Rattle.iso_text.specs.declared.sections.AtomText.{AtomText}
 use Rattle.lin_alg.specs.SpanLaws.{order}

@@ -1,5 +1,5 @@
 -- What the steps of the program find of a file.
-use Rattle.std.proofs.Common.{◌≡◌, refl, sym, ap, ◌∙◌, subst, inl, inr, ℕ, zero, suc, ◌<◌, ◌≤◌, List, [], ◌∷◌, length, get_or, map, arith, Some, slice_get}
+use Rattle.std.proofs.Common.{◌≡◌, refl, sym, ap, ◌∙◌, subst, inl, inr, ℕ, zero, suc, ◌<◌, ◌≤◌, List, [], ◌∷◌, length, map, arith, Some, slice_get}
 use Rattle.std.specs.List.{All}
 use Rattle.std.proofs.lemmas.Option.{get_or_from_slice_get, slice_get_within}
 use Rattle.cyclo24.specs.declared.k24.K24.{K24}
@@ -8,7 +8,7 @@ use Rattle.cyclo24.specs.K24.{exact24}
 use Rattle.iso_text.specs.declared.sections.AtomText.{AtomText}
 use Rattle.iso_text.specs.declared.sections.IrrepText.{IrrepText}
 use Rattle.lin_alg.specs.Rows.{vector}
-use Rattle.super_group.specs.Quotient.{SupercellGroup, order_of}
+use Rattle.super_group.specs.Quotient.{SupercellGroup}
 use Rattle.wyckoff.specs.AtomLines.{AreAccepted, AreOrbitsOf, IsSameSite, IsTooLarge}
 use Rattle.wyckoff.specs.Orbit.{OrbitView}
 use Rattle.induce.specs.InducedView.{InducedView, star_in}

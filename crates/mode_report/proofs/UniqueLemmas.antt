@@ -1,6 +1,5 @@
 -- What is told of the orbits of a file is one.
 use Rattle.std.proofs.Common.{◌≡◌, refl, sym, ap, ◌∙◌, subst, ◌⊎◌, inl, inr, ℕ, suc, ◌<◌, ◌≤◌, List, [], ◌∷◌, length, Some, slice_get, arith}
-use Rattle.std.proofs.lemmas.Bool.{cases_lt}
 use Rattle.cyclo24.specs.ExactK24.{Exact24, k24_laws}
 use Rattle.cyclo24.specs.ExactZ24.{z24_laws}
 use Rattle.iso_text.specs.declared.sections.AtomText.{AtomText}
@@ -10,7 +9,7 @@ use Rattle.lin_alg.specs.Matrices.{trace}
 use Rattle.lin_alg.specs.SpanLaws.{funext}
 use Rattle.lin_alg.specs.TraceLaws.{trace-same}
 use Rattle.space_ops.specs.Op.{vector_of}
-use Rattle.super_group.specs.Quotient.{SupercellGroup, IsQuotient, order_of}
+use Rattle.super_group.specs.Quotient.{SupercellGroup, order_of}
 use Rattle.small_rep.specs.SmallRep.{Matrices}
 use Rattle.induce.specs.Induced.{dimension_of, induced_of, weight_of, weight_at}
 use Rattle.wyckoff.specs.AtomLines.{AreOrbitsOf}
@@ -26,7 +25,7 @@ use Rattle.report_steps.specs.IrrepSteps.{Each}
 use Rattle.report_steps.specs.Irreps.{IsRepresented}
 use Rattle.report_steps.specs.StepLaws.{IsSingleAt}
 use Rattle.mode_report.specs.AllModes.{IsToldOf, told_modes}
-use Rattle.mode_report.specs.Atoms.{RefusesAtoms, HaveOrbits}
+use Rattle.mode_report.specs.Atoms.{RefusesAtoms}
 use Rattle.mode_report.specs.IrrepWeights.{IsWeightOf, AreWeightsOf}
 use Rattle.mode_report.specs.ModesFound.{AreToldOf}
 use Rattle.mode_report.specs.Told.{OrbitModes, counts_text}
@@ -48,14 +47,14 @@ HaveOneBasis =
 
 -- ---- lists
 
-orbits-each : (q : SupercellGroup) (atoms : List AtomText) (orbits : List OrbitView) → length orbits ≡ length atoms
+pub orbits-each : (q : SupercellGroup) (atoms : List AtomText) (orbits : List OrbitView) → length orbits ≡ length atoms
     → ((n : ℕ) (atom : AtomText) (o : OrbitView) → slice_get atoms n ≡ Some atom → slice_get orbits n ≡ Some o → IsOrbitOf q atom o) → Each (IsOrbitOf q) atoms orbits
 orbits-each q [] [] e f = tt
 orbits-each q [] (o ∷ orbits) e f = absurd (omega arith)
 orbits-each q (a ∷ atoms) [] e f = absurd (omega arith)
 orbits-each q (a ∷ atoms) (o ∷ orbits) e f = (f 0 a o refl refl, orbits-each q atoms orbits (omega arith) (λ n x y s t. f (suc n) x y s t))
 
-each-through : {A B C : Type 0} (R : A → B → Type 0) (S : B → C → Type 0) (xs : List A) (ys : List B) (zs : List C) → Each R xs ys → Each S ys zs → Each (λ x z. (y : B) × R x y × S y z) xs zs
+pub each-through : {A B C : Type 0} (R : A → B → Type 0) (S : B → C → Type 0) (xs : List A) (ys : List B) (zs : List C) → Each R xs ys → Each S ys zs → Each (λ x z. (y : B) × R x y × S y z) xs zs
 each-through R S [] [] [] h k = tt
 each-through R S [] [] (z ∷ zs) h k = k
 each-through R S [] (y ∷ ys) zs h k = absurd h
@@ -83,7 +82,7 @@ module _ (q : SupercellGroup) (one : InduceOne q) where
       at e (inl l) = a.inside e l ∙ weight-same i s t g m e a.inducible.rep b.inducible.rep ∙ sym (b.inside e l)
       at e (inr l) = a.past e l ∙ sym (b.past e l)
 
-  weights-one : (irreps : List IrrepText) (ws vs : List (ℕ → Exact24)) → AreWeightsOf q irreps ws → AreWeightsOf q irreps vs → ws ≡ vs
+  pub weights-one : (irreps : List IrrepText) (ws vs : List (ℕ → Exact24)) → AreWeightsOf q irreps ws → AreWeightsOf q irreps vs → ws ≡ vs
   weights-one irreps ws vs = each-same (IsWeightOf q) irreps ws vs weight-one
 
 -- ---- what is told

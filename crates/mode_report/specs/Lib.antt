@@ -18,3 +18,13 @@ pub mod AllModes
 pub mod Held
 -- what `modes` finds in a file
 pub mod ModesFound
+-- the modes that a direction allows
+pub mod DirectionModes
+-- what is found for a direction
+pub mod DirectionFound
+-- what the program holds of the modes that a stabiliser leaves
+pub mod DirectionHeld
+-- modes with the names of their irreps
+pub mod NamedRows
+-- what is found for a direction, by the program's answer
+pub mod FoundAlong

@@ -1,7 +1,5 @@
 -- The report of `modes`.
 --
--- ratio_text n d: the text of n / d
--- edge_text x, place_text place: a coordinate, and a place, as fractions of the cell edges in lowest terms
 -- place_lines places: the places of the atoms, numbered from 1
 -- is_still v i: atom i doesn't move; move_lines v atoms: the moves of the atoms that do
 -- orbit_text (number, told): the lines of an orbit
@@ -14,18 +12,8 @@ use Rattle.cyclo24.specs.Numerals.{of_whole}
 use Rattle.cyclo24.specs.TextK24.{text24}
 use Rattle.iso_text.specs.Lines.{line}
 use Rattle.space_ops.specs.Op.{number_at}
+use Rattle.report_steps.specs.Places.{place_text}
 use Rattle.mode_report.specs.Told.{OrbitModes}
-
--- n / d
-unfoldable pub ratio_text : ℤ → ℤ → List ℕ
-ratio_text n d = text24 (k24_laws.times (of_whole k24_laws n) (k24_laws.inverse (of_whole k24_laws d)))
-
--- so many twelve millionths of a cell edge
-abbrev pub edge_text : ℤ → List ℕ
-edge_text x = ratio_text x (pos 12000000)
-
-abbrev pub place_text : List ℤ → List ℕ
-place_text place = edge_text (number_at place 0) ++ codes " " ++ edge_text (number_at place 1) ++ codes " " ++ edge_text (number_at place 2)
 
 -- `place NUMBER X Y Z`
 abbrev pub place_line : ℕ × List ℤ → List ℕ

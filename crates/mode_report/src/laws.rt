@@ -1,11 +1,14 @@
 // Laws over the definitions, as contracts of functions that do nothing.
+ghost use Rattle.std.specs.Prelude.{ℕ, List, Option};
 ghost use Rattle.super_group.specs.Quotient.{IsQuotient};
 ghost use Rattle.report_steps.specs.Contexts.{Divided};
-ghost use Rattle.report_steps.specs.StepLaws.{IsSingleAt};
+ghost use Rattle.report_steps.specs.StepLaws.{IsSingleAt, FindsOneAt};
 ghost use Rattle.mode_report.specs.Atoms.{RefusesAtoms};
+ghost use Rattle.mode_report.specs.DirectionFound.{IsFoundAlong};
 ghost use Rattle.mode_report.specs.ModesFound.{AreToldOf};
 
 use cyclo24::K24;
+use list_report::law_of_listing_steps;
 use mode_project::{law_of_one_basis, law_of_one_orbit};
 use report_steps::law_of_irreps;
 
@@ -17,4 +20,14 @@ pub fn law_of_modes_found()
     law_of_one_basis::<K24>();
     law_of_one_orbit();
     law_of_irreps();
+}
+
+/// What `modes` finds for a direction of a file is one, besides numbers that pass their bound.
+pub fn law_of_modes_along()
+    ensures { (d : Divided) → IsQuotient d.quotient → (wanted : Option (List ℕ)) (number : ℕ) → FindsOneAt (IsFoundAlong wanted number) d }
+{
+    law_of_one_basis::<K24>();
+    law_of_one_orbit();
+    law_of_irreps();
+    law_of_listing_steps();
 }

@@ -4,21 +4,29 @@
 //! numbers for each atom; orbits, places, modes and atoms are numbered from 1 in the report.
 #![tactic(auto)]
 
+mod along;
 mod atoms;
+mod direction;
+mod direction_form;
+mod direction_report;
+mod direction_rows;
 mod found;
 mod head;
 mod laws;
 mod mode_text;
 mod moves;
+mod named_rows;
 mod orbit_modes;
 mod orbit_text;
 mod place_text;
 mod report;
 mod weights;
 
+pub use along::{ModesAlong, along_report};
 pub use atoms::orbits_of;
+pub use direction::modes_along;
 pub use found::{FoundModes, modes_found, modes_text_of};
-pub use laws::law_of_modes_found;
+pub use laws::{law_of_modes_along, law_of_modes_found};
 pub use orbit_modes::all_modes;
 pub use report::modes_report;
 pub use weights::weights_of;

@@ -15,4 +15,5 @@ returns c =
       facts = i.facts;
       list = c.law_of_list.ensures;
       modes = c.law_of_modes_found.ensures;
+      along = c.law_of_modes_along.ensures;
     })

@@ -1,6 +1,3 @@
-use Rattle.std.proofs.Common.{◌≡◌, subst, true}
-use Rattle.iso_report.specs.declared.job.Job.{Job}
-use Rattle.iso_report.specs.Jobs.{is_built}
 use Rattle.iso_report.proofs.FoundLemmas.{checked-found, list-job-found, modes-found}
 use Rattle.iso_report.proofs.outcome.after_induced.Goals as goal
 
@@ -11,9 +8,6 @@ pub returns-in-List : goal.returns-in-List
 returns-in-List c =
     let l = c.in-List in
     list-job-found c.args.job.now l.irrep l.after l.count l.tally c.args.file.divided l.is c.requires.built c.found_listing.result c.found_listing.ensures
-
-pub after_modes-requires-clause-built : goal.after_modes-requires-clause-built
-after_modes-requires-clause-built c = subst (λ (x : Job). is_built x ≡ true) c.in-Modes.is c.requires.built
 
 pub returns-in-Modes : goal.returns-in-Modes
 returns-in-Modes c = modes-found c.args.job.now c.in-Modes.direction c.args.file.divided c.in-Modes.is c.after_modes.result c.after_modes.ensures

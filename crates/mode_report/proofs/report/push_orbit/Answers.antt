@@ -3,7 +3,6 @@ use Rattle.std.specs.List.{enumerate_from}
 use Rattle.std.specs.Prelude.{codes, decimal}
 use Rattle.std.proofs.lemmas.List.{length-map}
 use Rattle.std.proofs.lemmas.Result.{on_ok_weaker}
-use Rattle.cyclo24.specs.ExactK24.{Exact24}
 use Rattle.iso_text.specs.Lines.{line}
 use Rattle.mode_project.specs.ModesView.{irrep_modes_in}
 use Rattle.mode_report.specs.AllModes.{named, told_sites}
