@@ -1,0 +1,8 @@
+-- The modules, each behind those that it stands on.
+
+-- the cell of the listed places
+pub mod ListedCells
+-- places of listed atoms, and the atoms of the supercell that they match
+pub mod Matches
+-- the displacements of the atoms, or the line or atom that is refused
+pub mod Outcomes
