@@ -6,3 +6,5 @@ pub mod ListedCells
 pub mod Matches
 -- the displacements of the atoms, or the line or atom that is refused
 pub mod Outcomes
+-- what the search for the atoms of a place takes and gives
+pub mod FoundParts

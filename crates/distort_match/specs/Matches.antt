@@ -4,7 +4,7 @@
 -- IsOnGrid cell line: the place of a line is a whole number of units in the parent
 -- IsPlace s cell line t x: x is place number t of a listed line
 -- ListedPlace m n t: place number t of line n
--- IsDisplacement m x a v: v is x less a after a supercell translation, each coordinate at most the tolerance
+-- IsDisplacement d tolerance x a v: v is x less a after a supercell translation, each coordinate at most the tolerance
 -- Matches m n t o i v: place t of line n matches atom i of orbit o, which it displaces by v
 -- MatchesAtom m n t o i: it matches that atom
 use Rattle.std.specs.Prelude.{◌≡◌, ⊤, ℕ, ◌<◌, ℤ, neg_ℤ, ◌≤ℤ◌, List, length, Option, Some, None, slice_get}
@@ -50,12 +50,12 @@ pub record ListedPlace (m : Matching) (n t : ℕ) : Type 0 where
 abbrev pub IsNear : ℤ → ℤ → Type 0
 IsNear tolerance c = (neg_ℤ tolerance ≤ℤ c) × (c ≤ℤ tolerance)
 
-pub record IsDisplacement (m : Matching) (x a v : Vector ℤ) : Type 0 where
+pub record IsDisplacement (d : List ℕ) (tolerance : ℤ) (x a v : Vector ℤ) : Type 0 where
   -- of the supercell, in twelfths
   pub translation : Vector ℤ
-  pub of_supercell : IsCell m.group.d translation
+  pub of_supercell : IsCell d translation
   pub is : v ≡ vector_sum whole (vector_difference x a) (in_units translation)
-  pub near : IsNear m.tolerance v.x × IsNear m.tolerance v.y × IsNear m.tolerance v.z
+  pub near : IsNear tolerance v.x × IsNear tolerance v.y × IsNear tolerance v.z
 
 pub record Matches (m : Matching) (n t o i : ℕ) (v : Vector ℤ) : Type 0 where
   pub place : ListedPlace m n t
@@ -63,7 +63,7 @@ pub record Matches (m : Matching) (n t o i : ℕ) (v : Vector ℤ) : Type 0 wher
   pub is_orbit : slice_get m.orbits o ≡ Some orbit
   pub below : i < length orbit.places
   pub label : orbit.label ≡ place.line.label
-  pub displaces : IsDisplacement m place.x (place_at orbit.places i) v
+  pub displaces : IsDisplacement m.group.d m.tolerance place.x (place_at orbit.places i) v
 
 abbrev pub MatchesAtom : Matching → ℕ → ℕ → ℕ → ℕ → Type 0
 MatchesAtom m n t o i = (v : Vector ℤ) × Matches m n t o i v

@@ -6,10 +6,11 @@
 -- IsAcceptedTo m n t: the cell isn't bad, the first n lines are on the grid, and each place before place t of line n matches one atom of its own
 -- AreShiftsOf m shifts: all lines are accepted, and each atom is displaced by the place that matches it
 -- IsMatchCause m error: when there are no displacements
-use Rattle.std.specs.Prelude.{◌≡◌, ⊤, ◌⊎◌, ℕ, ◌<◌, ℤ, List, [], length, Some, IfSome, slice_get, slice_index_or}
+use Rattle.std.specs.Prelude.{◌≡◌, ⊤, ◌⊎◌, ℕ, ◌<◌, ℤ, List, [], length, Option, Some, IfSome, slice_get, slice_index_or}
 use Rattle.iso_text.specs.declared.sections.AtomText.{AtomText}
 use Rattle.iso_text.specs.declared.sections.CellText.{CellText}
 use Rattle.space_ops.specs.Op.{vector_of, shift_of}
+use Rattle.super_group.specs.Quotient.{SupercellGroup}
 use Rattle.wyckoff.specs.Orbit.{OrbitView}
 use Rattle.distort_match.specs.declared.errors.MatchError.{MatchError}
 use Rattle.distort_match.specs.declared.errors.MatchError.TheVariants.{Unmatched, Ambiguous, MissingAtom, BadCell, OffGrid, NoMemory}
@@ -53,10 +54,10 @@ pub record AreShiftsOf (m : Matching) (shifts : List (List (List ℤ))) : Type 0
   pub atoms : (o : ℕ) (orbit : OrbitView) → slice_get m.orbits o ≡ Some orbit → length (slice_index_or shifts o []) ≡ length orbit.places
   pub each : (o i : ℕ) (orbit : OrbitView) → slice_get m.orbits o ≡ Some orbit → i < length orbit.places → IsShiftOf m o i (shift_at shifts o i)
 
-pub record IsBadAt (m : Matching) (line : ℕ) : Type 0 where
+pub record HasBadCell (s : SupercellGroup) (listed_cell : Option CellText) (line : ℕ) : Type 0 where
   pub cell : CellText
-  pub is_cell : m.cell ≡ Some cell
-  pub bad : IsBadCell m.group cell
+  pub is_cell : listed_cell ≡ Some cell
+  pub bad : IsBadCell s cell
   pub line_is : line ≡ cell.line
 
 -- all before line n is accepted, and it is off the grid
@@ -121,6 +122,6 @@ abbrev pub IsMatchCause : Matching → MatchError → Type 0
 IsMatchCause m (Unmatched line) = IsUnmatched m line
 IsMatchCause m (Ambiguous line) = IsAmbiguous m line
 IsMatchCause m (MissingAtom label place) = IsMissing m label place
-IsMatchCause m (BadCell line) = IsBadAt m line
+IsMatchCause m (BadCell line) = HasBadCell m.group m.cell line
 IsMatchCause m (OffGrid line) = IsOffGrid m line
 IsMatchCause m NoMemory = ⊤

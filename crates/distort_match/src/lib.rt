@@ -11,9 +11,12 @@
 #![tactic(auto)]
 
 mod errors;
+mod found;
+mod laws;
 mod matching;
 mod shifts;
 
 pub use errors::MatchError;
+pub use laws::law_of_matches;
 pub use matching::match_atoms;
 pub use shifts::Shifts;

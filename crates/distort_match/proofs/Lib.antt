@@ -1,0 +1,4 @@
+pub mod AlongLemmas
+pub mod CombinationLemmas
+pub mod FoundLemmas
+pub mod UniqueLemmas
