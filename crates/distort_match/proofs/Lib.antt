@@ -1,4 +1,6 @@
 pub mod AlongLemmas
 pub mod CombinationLemmas
+pub mod FinishLemmas
 pub mod FoundLemmas
+pub mod StepLemmas
 pub mod UniqueLemmas

@@ -8,3 +8,5 @@ pub mod Matches
 pub mod Outcomes
 -- what the search for the atoms of a place takes and gives
 pub mod FoundParts
+-- the displacements found so far
+pub mod MarkParts

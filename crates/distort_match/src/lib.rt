@@ -13,6 +13,7 @@
 mod errors;
 mod found;
 mod laws;
+mod marks;
 mod matching;
 mod shifts;
 
