@@ -96,10 +96,10 @@ orbit_before orbits marks n shifts orbit row h e r = record {
   each = λ o other l f. elim (cases_lt o n) [
     | inl k ↦ subst (λ u. AreAllMarked (get_or marks o []) (length other.places) u) (sym (get_or_append_left shifts (row ∷ []) [] o (inside o k))) (h.each o other k f)
     | inr k ↦
-      let s : o ≡ n = last o l k in
-      let w : orbit ≡ other = some_same orbit other (sym e ∙ ap (slice_get orbits) (sym s) ∙ f) in
-      subst (λ u. AreAllMarked (get_or marks o []) (length other.places) u) (sym (get_or_push shifts row [] o (h.count ∙ sym s)))
-      (subst (λ (v : OrbitView). AreAllMarked (get_or marks o []) (length v.places) row) w (subst (λ p. AreAllMarked (get_or marks p []) (length orbit.places) row) (sym s) r))
+        let s : o ≡ n = last o l k in
+        let w : orbit ≡ other = some_same orbit other (sym e ∙ ap (slice_get orbits) (sym s) ∙ f) in
+        subst (λ u. AreAllMarked (get_or marks o []) (length other.places) u) (sym (get_or_push shifts row [] o (h.count ∙ sym s)))
+        (subst (λ (v : OrbitView). AreAllMarked (get_or marks o []) (length v.places) row) w (subst (λ p. AreAllMarked (get_or marks p []) (length orbit.places) row) (sym s) r))
   ];
 }
   where
@@ -134,14 +134,14 @@ orbit_free orbits n marks orbit row h e r f = record {
   atoms = λ o other l g. elim (cases_lt o n) [
     | inl k ↦ ap length (get_or_append_left marks (row ∷ []) [] o (inside o k)) ∙ h.atoms o other k g
     | inr k ↦
-      let s : o ≡ n = last o l k in
-      ap length (get_or_push marks row [] o (h.count ∙ sym s)) ∙ r ∙ ap (λ (v : OrbitView). length v.places) (some_same orbit other (sym e ∙ ap (slice_get orbits) (sym s) ∙ g))
+        let s : o ≡ n = last o l k in
+        ap length (get_or_push marks row [] o (h.count ∙ sym s)) ∙ r ∙ ap (λ (v : OrbitView). length v.places) (some_same orbit other (sym e ∙ ap (slice_get orbits) (sym s) ∙ g))
   ];
   free = λ o i. elim (cases_lt o n) [
     | inl k ↦ ap (λ u. get_or u i None) (get_or_append_left marks (row ∷ []) [] o (inside o k)) ∙ h.free o i
     | inr k ↦ elim (cases_lt n o) [
       | inl l ↦
-        ap (λ u. get_or u i None) (get_or_past (marks ++ row ∷ []) o [] (let q : length (marks ++ row ∷ []) ≡ length marks + 1 = length_push marks row in let c = h.count in omega (arith, q, c, l))) ∙ nothing_at i
+          ap (λ u. get_or u i None) (get_or_past (marks ++ row ∷ []) o [] (let q : length (marks ++ row ∷ []) ≡ length marks + 1 = length_push marks row in let c = h.count in omega (arith, q, c, l))) ∙ nothing_at i
       | inr l ↦ ap (λ u. get_or u i None) (get_or_push marks row [] o (let c = h.count in omega (arith, c, k, l))) ∙ f i
     ]
   ];

@@ -37,19 +37,19 @@ module _ (P Q R : ℕ → ℕ → Vector ℤ → Type 0) (left : (o i : ℕ) (v 
   only_left o i v h none = record {
     is = left o i (vector_of v) h.is;
     shaped = h.shaped;
-    only = λ p j w r. elim (split p j w r) [ | inl a ↦ h.only p j w a | inr b ↦ absurd (none p j w b) ];
+    only = λ p j w r. elim (split p j w r) [ inl a ↦ h.only p j w a | inr b ↦ absurd (none p j w b) ];
   }
 
   only_right : (o i : ℕ) (v : List ℤ) → ((p j : ℕ) (w : Vector ℤ) → P p j w → ⊥) → IsOnly Q o i v → IsOnly R o i v
   only_right o i v none h = record {
     is = right o i (vector_of v) h.is;
     shaped = h.shaped;
-    only = λ p j w r. elim (split p j w r) [ | inl a ↦ absurd (none p j w a) | inr b ↦ h.only p j w b ];
+    only = λ p j w r. elim (split p j w r) [ inl a ↦ absurd (none p j w a) | inr b ↦ h.only p j w b ];
   }
 
   -- what is found in two places
   pub both_found : (f g : Found) → IsFound P f → IsFound Q g → IsFound R (both_of f g)
-  both_found Nothing Nothing h k = λ o i v r. elim (split o i v r) [ | inl a ↦ h o i v a | inr b ↦ k o i v b ]
+  both_found Nothing Nothing h k = λ o i v r. elim (split o i v r) [ inl a ↦ h o i v a | inr b ↦ k o i v b ]
   both_found Nothing (One o i v) h k = only_right o i v h k
   both_found Nothing Many h k = two_to Q R right k
   both_found (One o i v) Nothing h k = only_left o i v h k
@@ -69,7 +69,7 @@ module _ (P Q R : ℕ → ℕ → Vector ℤ → Type 0) (left : (o i : ℕ) (v 
 
 -- below n + 1: below n, or n
 below_or : (i n : ℕ) → i < n + 1 → (i < n) ⊎ (i ≡ n)
-below_or i n l = elim (cases_lt i n) [ | inl m ↦ inl m | inr m ↦ inr (omega (arith, l, m)) ]
+below_or i n l = elim (cases_lt i n) [ inl m ↦ inl m | inr m ↦ inr (omega (arith, l, m)) ]
 
 module _ (d : List ℕ) (tolerance : ℤ) (x : Vector ℤ) where
   module _ (o : ℕ) (places : List (List ℤ)) where
@@ -91,7 +91,7 @@ module _ (d : List ℕ) (tolerance : ℤ) (x : Vector ℤ) where
     unfolding IsAtom
     atom_more n shift f h k =
         both_found (IsAtomBelow d tolerance x o places n) (IsAtom n) (IsAtomBelow d tolerance x o places (n + 1)) (λ p i v a. (a.0, omega (arith, a.1), a.2)) (λ p i v a. (a.0, omega (arith, a.1), a.2))
-        (λ p i v r. elim (below_or i n r.1) [ | inl l ↦ inl (r.0, l, r.2) | inr e ↦ inr (r.0, e, r.2) ])
+        (λ p i v r. elim (below_or i n r.1) [ inl l ↦ inl (r.0, l, r.2) | inr e ↦ inr (r.0, e, r.2) ])
         (λ p i q j v w a b e. omega (arith, a.1, b.1, e.1)) f (found_of o n shift) k (at_atom n shift h)
 
   module _ (label : List ℕ) (orbits : List OrbitView) where
@@ -99,7 +99,7 @@ module _ (d : List ℕ) (tolerance : ℤ) (x : Vector ℤ) where
     same_orbit o u v e f = some_same (sym e ∙ f)
       where
         some_same : Some u ≡ Some v → u ≡ v
-        some_same h = ap (λ w. elim w [ | None ↦ u | Some y ↦ y ]) h
+        some_same h = ap (λ w. elim w [ None ↦ u | Some y ↦ y ]) h
 
     -- orbit o has the label
     pub orbit_labelled : (o : ℕ) (orbit : OrbitView) → slice_get orbits o ≡ Some orbit → orbit.label ≡ label → (f : Found)
@@ -124,5 +124,5 @@ module _ (d : List ℕ) (tolerance : ℤ) (x : Vector ℤ) where
         → IsFound (IsAtomOf d tolerance x label orbits (n + 1)) (both_of f g)
     orbit_more n f g h k =
         both_found (IsAtomOf d tolerance x label orbits n) (IsAtomIn d tolerance x label orbits n) (IsAtomOf d tolerance x label orbits (n + 1)) (λ p i v a. (omega (arith, a.0), a.1))
-        (λ p i v a. (omega (arith, a.0), a.1)) (λ p i v r. elim (below_or p n r.0) [ | inl l ↦ inl (l, r.1) | inr e ↦ inr (e, r.1) ])
+        (λ p i v a. (omega (arith, a.0), a.1)) (λ p i v r. elim (below_or p n r.0) [ inl l ↦ inl (l, r.1) | inr e ↦ inr (e, r.1) ])
         (λ p i q j v w a b e. omega (arith, a.0, b.0, e.0)) f g h k

@@ -23,14 +23,14 @@ earlier_more k u n t (inr e) = inr (e.0, omega (arith, e.1))
 
 earlier_or : (k u n t : ℕ) → IsEarlier k u n (t + 1) → IsEarlier k u n t ⊎ ((k ≡ n) × (u ≡ t))
 earlier_or k u n t (inl l) = inl (inl l)
-earlier_or k u n t (inr e) = elim (cases_lt u t) [ | inl l ↦ inl (inr (e.0, l)) | inr l ↦ inr (e.0, omega (arith, l, e.1)) ]
+earlier_or k u n t (inr e) = elim (cases_lt u t) [ inl l ↦ inl (inr (e.0, l)) | inr l ↦ inr (e.0, omega (arith, l, e.1)) ]
 
 earlier_line : (k u n t : ℕ) → IsEarlier k u (n + 1) 0 → (k < n) ⊎ (k ≡ n)
-earlier_line k u n t (inl l) = elim (cases_lt k n) [ | inl m ↦ inl m | inr m ↦ inr (omega (arith, l, m)) ]
+earlier_line k u n t (inl l) = elim (cases_lt k n) [ inl m ↦ inl m | inr m ↦ inr (omega (arith, l, m)) ]
 earlier_line k u n t (inr e) = absurd (omega (arith, e.1))
 
 pub none_some : {A : Type 0} → (a : A) → None ≡ Some a → ⊥
-none_some a e = let f : Option _ → Type 0 = λ o. elim o [ | None ↦ Unit {0} | Some y ↦ ⊥ ] in subst f e tt
+none_some a e = let f : Option _ → Type 0 = λ o. elim o [ None ↦ Unit {0} | Some y ↦ ⊥ ] in subst f e tt
 
 module _ (m : Matching) (n t : ℕ) where
   -- no place has this number
@@ -57,7 +57,7 @@ module _ (m : Matching) (n t : ℕ) where
   line_taken marks all grid a = record {
     accepted = record {
       cell = a.accepted.cell;
-      on_grid = λ k line l e. elim (cases_lt k n) [ | inl f ↦ a.accepted.on_grid k line f e | inr f ↦ grid line (ap (slice_get m.listed) (sym (same k l f)) ∙ e) ];
+      on_grid = λ k line l e. elim (cases_lt k n) [ inl f ↦ a.accepted.on_grid k line f e | inr f ↦ grid line (ap (slice_get m.listed) (sym (same k l f)) ∙ e) ];
       matched = λ k u e p. elim (earlier_line k u n t e) [
         | inl f ↦ a.accepted.matched k u (inl f) p
         | inr f ↦ a.accepted.matched k u (inr (f, all u (subst (λ j. ListedPlace m j u) f p))) p
@@ -197,10 +197,13 @@ module _ (m : Matching) (n t : ℕ) where
         };
         marked = λ o i v e. elim (itself_or o i) [
           | inl f ↦
-            let w : h.v ≡ v = some_same h.v v (sym marked_itself ∙ ap (λ p. mark_at marks' p h.i) (sym f.0) ∙ ap (mark_at marks' o) (sym f.1) ∙ e) in
-            (n, t, now,
-            subst (λ (v : List ℤ). Matches m n t o i (vector_of v)) w (subst (λ j. Matches m n t o j (vector_of h.v)) (sym f.1) (subst (λ p. Matches m n t p h.i (vector_of h.v)) (sym f.0) (atom_matches h.o h.i (vector_of h.v) h.only.is))),
-            subst (λ (v : List ℤ). v ≡ shift_of (vector_of v)) w h.only.shaped)
+              let w : h.v ≡ v = some_same h.v v (sym marked_itself ∙ ap (λ p. mark_at marks' p h.i) (sym f.0) ∙ ap (mark_at marks' o) (sym f.1) ∙ e) in (
+                n,
+                t,
+                now,
+                subst (λ (v : List ℤ). Matches m n t o i (vector_of v)) w (subst (λ j. Matches m n t o j (vector_of h.v)) (sym f.1) (subst (λ p. Matches m n t p h.i (vector_of h.v)) (sym f.0) (atom_matches h.o h.i (vector_of h.v) h.only.is))),
+                subst (λ (v : List ℤ). v ≡ shift_of (vector_of v)) w h.only.shaped,
+              )
           | inr f ↦ let b = a.marked o i v (sym f.0 ∙ e) in (b.0, b.1, earlier_more b.0 b.1 n t b.2, b.3, b.4)
         ];
         free = λ o i e k u f g. elim (itself_or o i) [
@@ -208,8 +211,8 @@ module _ (m : Matching) (n t : ℕ) where
           | inr b ↦ elim (earlier_or k u n t f) [
             | inl l ↦ a.free o i (sym b.0 ∙ e) k u l g
             | inr l ↦
-              let q : MatchesAtom m n t o i = subst (λ j. MatchesAtom m n j o i) l.1 (subst (λ j. MatchesAtom m j u o i) l.0 g) in
-              b.1 (h.only.only o i q.0 (match_atom o i q.0 q.1))
+                let q : MatchesAtom m n t o i = subst (λ j. MatchesAtom m n j o i) l.1 (subst (λ j. MatchesAtom m j u o i) l.0 g) in
+                b.1 (h.only.only o i q.0 (match_atom o i q.0 q.1))
           ]
         ];
       }

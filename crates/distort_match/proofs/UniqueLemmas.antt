@@ -22,7 +22,7 @@ use Rattle.distort_match.specs.FoundParts.{IsAlong}
 use Rattle.distort_match.proofs.AlongLemmas.{along_x, along_y, along_z}
 
 pub some_same : {A : Type 0} → (a b : A) → Some a ≡ Some b → a ≡ b
-some_same a b h = ap (λ w. elim w [ | None ↦ a | Some y ↦ y ]) h
+some_same a b h = ap (λ w. elim w [ None ↦ a | Some y ↦ y ]) h
 
 -- twelve times a number determines it
 twelve_times : (x y u o r : ℤ) → pos 12 *ℤ ((x +ℤ neg_ℤ u) +ℤ neg_ℤ o) ≡ r → pos 12 *ℤ ((y +ℤ neg_ℤ u) +ℤ neg_ℤ o) ≡ r → x ≡ y

@@ -111,11 +111,7 @@ pub(crate) fn take_found(
 }
 
 // The displacements of an orbit, or its first atom without one.
-fn orbit_shifts(
-    alloc: Global,
-    orbit: &Orbit,
-    marks: &OrbitMarks,
-) -> Result<OrbitShifts, MatchError>
+fn orbit_shifts(alloc: Global, orbit: &Orbit, marks: &OrbitMarks) -> Result<OrbitShifts, MatchError>
     requires { length marks.now ≡ length orbit.now.places }
     ensures shifts { IfOk result (λ shifts. AreAllMarked marks.now (length orbit.now.places) shifts) }
     ensures cause { IfErr result (IsOrbitCause orbit.now marks.now) }

@@ -48,12 +48,12 @@ returns-in-None-displacement_along-2 c v h =
 
 pub returns-in-Some-displacement_along-2 : goal.returns-in-Some-displacement_along-2
 returns-in-Some-displacement_along-2 c = (
-    displaced c.args.d c.args.tolerance (vector_of c.args.x) (vector_of c.args.a) _
-    (along_passed _ _ _ _ _ _ _ _ (ap (λ n. 12000000 * n) (multiplier_at c.args.d (search rules) 0 (omega arith))) (to_z-of_z w64 c.args.tolerance c.ranges.tolerance) (to_z-of_z w64 (number_at c.args.x 0) (search rules)) (to_z-of_z w64 (number_at c.args.a 0) (search rules)) c.in-Some.along_x _
-        (sym (to_z-of_z w64 c.in-Some.along_x (search rules))) c.in-Some.ensures)
-    (along_passed _ _ _ _ _ _ _ _ (ap (λ n. 12000000 * n) (multiplier_at c.args.d (search rules) 1 (omega arith))) (to_z-of_z w64 c.args.tolerance c.ranges.tolerance) (to_z-of_z w64 (number_at c.args.x 1) (search rules)) (to_z-of_z w64 (number_at c.args.a 1) (search rules)) c.in-Some-displacement_along.along_y _
-        (sym (to_z-of_z w64 c.in-Some-displacement_along.along_y (search rules))) c.in-Some-displacement_along.ensures)
-    (along_passed _ _ _ _ _ _ _ _ (ap (λ n. 12000000 * n) (multiplier_at c.args.d (search rules) 2 (omega arith))) (to_z-of_z w64 c.args.tolerance c.ranges.tolerance) (to_z-of_z w64 (number_at c.args.x 2) (search rules)) (to_z-of_z w64 (number_at c.args.a 2) (search rules)) c.in-Some-displacement_along-2.along_z _
-        (sym (to_z-of_z w64 c.in-Some-displacement_along-2.along_z (search rules))) c.in-Some-displacement_along-2.ensures),
-    refl,
-  )
+  displaced c.args.d c.args.tolerance (vector_of c.args.x) (vector_of c.args.a) _
+      (along_passed _ _ _ _ _ _ _ _ (ap (λ n. 12000000 * n) (multiplier_at c.args.d (search rules) 0 (omega arith))) (to_z-of_z w64 c.args.tolerance c.ranges.tolerance) (to_z-of_z w64 (number_at c.args.x 0) (search rules)) (to_z-of_z w64 (number_at c.args.a 0) (search rules)) c.in-Some.along_x _
+      (sym (to_z-of_z w64 c.in-Some.along_x (search rules))) c.in-Some.ensures)
+      (along_passed _ _ _ _ _ _ _ _ (ap (λ n. 12000000 * n) (multiplier_at c.args.d (search rules) 1 (omega arith))) (to_z-of_z w64 c.args.tolerance c.ranges.tolerance) (to_z-of_z w64 (number_at c.args.x 1) (search rules)) (to_z-of_z w64 (number_at c.args.a 1) (search rules)) c.in-Some-displacement_along.along_y _
+      (sym (to_z-of_z w64 c.in-Some-displacement_along.along_y (search rules))) c.in-Some-displacement_along.ensures)
+      (along_passed _ _ _ _ _ _ _ _ (ap (λ n. 12000000 * n) (multiplier_at c.args.d (search rules) 2 (omega arith))) (to_z-of_z w64 c.args.tolerance c.ranges.tolerance) (to_z-of_z w64 (number_at c.args.x 2) (search rules)) (to_z-of_z w64 (number_at c.args.a 2) (search rules)) c.in-Some-displacement_along-2.along_z _
+      (sym (to_z-of_z w64 c.in-Some-displacement_along-2.along_z (search rules))) c.in-Some-displacement_along-2.ensures),
+  refl,
+)
