@@ -1,7 +1,13 @@
 pub mod AlongLemmas
+pub mod CarriedLemmas
+pub mod CellLemmas
 pub mod CombinationLemmas
 pub mod FinishLemmas
 pub mod FoundLemmas
+pub mod MatchLemmas
+pub mod NumberLemmas
 pub mod PlaceLemmas
+pub mod ProductLemmas
 pub mod StepLemmas
 pub mod UniqueLemmas
+pub mod WrittenLemmas

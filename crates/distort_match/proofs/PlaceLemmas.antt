@@ -1,5 +1,5 @@
 -- What a place has found, among the marks.
-use Rattle.std.proofs.Common.{◌≡◌, refl, sym, ap, ◌∙◌, subst, ℕ, ◌<◌, inl, inr, ◌⊎◌, ℤ, List, [], length, Option, Some, None, get_or, set, slice_get, Result, Ok, Err, OnOk, IfErr, arith}
+use Rattle.std.proofs.Common.{◌≡◌, refl, sym, ap, ◌∙◌, subst, ℕ, ◌<◌, inl, inr, ◌⊎◌, ℤ, List, [], length, Option, Some, None, get_or, set, slice_get, Result, Ok, Err, OnOk, IfOk, IfErr, arith}
 use Rattle.std.proofs.lemmas.Bool.{cases_order}
 use Rattle.std.proofs.lemmas.List.{get_or-set_same, get_or-set_other, length-set}
 use Rattle.std.proofs.lemmas.Option.{slice_get_within}
@@ -83,3 +83,7 @@ ok_map (Err e) A B f h = h
 pub err_map : {T E : Type 0} (r : Result T E) (A B : E → Type 0) → ((e : E) → A e → B e) → IfErr r A → IfErr r B
 err_map (Ok x) A B f h = h
 err_map (Err e) A B f h = f e h
+
+pub value_map : {T E : Type 0} (r : Result T E) (A B : T → Type 0) → ((t : T) → A t → B t) → IfOk r A → IfOk r B
+value_map (Ok x) A B f h = f x h
+value_map (Err e) A B f h = h

@@ -10,3 +10,7 @@ pub mod Outcomes
 pub mod FoundParts
 -- the displacements found so far
 pub mod MarkParts
+-- the frame of the listed places
+pub mod FrameParts
+-- the parts of a cell
+pub mod CellPieces

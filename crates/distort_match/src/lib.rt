@@ -10,9 +10,13 @@
 //! that has none.
 #![tactic(auto)]
 
+mod cell_frame;
+mod cells;
 mod errors;
 mod found;
+mod frame;
 mod laws;
+mod lines;
 mod marks;
 mod matching;
 mod shifts;

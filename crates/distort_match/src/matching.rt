@@ -7,7 +7,10 @@ ghost use Rattle.iso_text.specs.declared.sections.AtomText.{AtomText};
 ghost use Rattle.wyckoff.specs.AtomLines.{AreOrbitsOf};
 ghost use Rattle.distort_match.specs.Outcomes.{AreShiftsOf, IsMatchCause};
 
+use crate::cell_frame::frame_of;
 use crate::errors::MatchError;
+use crate::lines::add_lines;
+use crate::marks::{no_marks, shifts_of};
 use crate::shifts::Shifts;
 use iso_text::{AtomText, CellText};
 use std::alloc::Global;
@@ -38,5 +41,19 @@ pub fn match_atoms(
     ensures shifts { IfOk result (λ shifts. AreShiftsOf (record { group = quotient.now; orbits = orbits.now; listed = listed.now; tolerance = tolerance; cell = option_copied cell.entry }) shifts) }
     ensures cause { IfErr result (λ error. IsMatchCause (record { group = quotient.now; orbits = orbits.now; listed = listed.now; tolerance = tolerance; cell = option_copied cell.entry }) error) }
 {
-    Err(MatchError::NoMemory)
+    let _ = quotient.order();
+    let d = quotient.d();
+    let frame = match frame_of(alloc, quotient, cell) {
+        Ok(frame) => frame,
+        Err(error) => return Err(error),
+    };
+    let mut marks = match no_marks(alloc, orbits) {
+        Ok(marks) => marks,
+        Err(error) => return Err(error),
+    };
+    match add_lines(&mut marks, d, orbits, tolerance, &frame, listed) {
+        Ok(()) => {}
+        Err(error) => return Err(error),
+    }
+    shifts_of(alloc, orbits, &marks)
 }
