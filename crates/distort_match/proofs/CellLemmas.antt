@@ -1,5 +1,5 @@
 -- The cell of the listed places, and its frame.
-use Rattle.std.proofs.Common.{◌≡◌, refl, sym, ap, ◌∙◌, subst, ℕ, zero, suc, ◌<◌, ◌≤◌, ◌+◌, inl, inr, ◌⊎◌, ℤ, pos, unsigned_abs, List, [], ◌∷◌, ◌++◌, length, Option, Some, None, get_or, slice_get, arith}
+use Rattle.std.proofs.Common.{◌≡◌, refl, sym, ap, ◌∙◌, subst, ℕ, zero, suc, ◌<◌, ◌+◌, inl, inr, ℤ, pos, unsigned_abs, List, [], ◌∷◌, ◌++◌, length, Option, Some, None, get_or, arith}
 use Rattle.std.proofs.lemmas.Bool.{cases_lt}
 use Rattle.std.proofs.lemmas.List.{get_or_push, get_or_append_left}
 use Rattle.std.proofs.lemmas.Option.{slice_get_within, slice_get-get_or}
@@ -11,7 +11,7 @@ use Rattle.algebra.specs.Whole.{whole}
 use Rattle.iso_text.specs.Ranges.{IsCell}
 use Rattle.iso_text.specs.declared.sections.AtomText.{AtomText}
 use Rattle.iso_text.specs.declared.sections.CellText.{CellText}
-use Rattle.space_ops.specs.Matrix.{Matrix, Vector, image_under, determinant, adjugate}
+use Rattle.space_ops.specs.Matrix.{Matrix, Vector, determinant}
 use Rattle.space_ops.specs.MatrixLaws.{same_vector}
 use Rattle.space_ops.specs.Op.{vector_of, shift_of, matrix_of, IsShiftWithin, IsRotationWithin}
 use Rattle.space_ops.specs.WithinLaws.{shift_more}
@@ -20,9 +20,9 @@ use Rattle.super_group.specs.Quotient.{SupercellGroup, translation_at}
 use Rattle.wyckoff.specs.Places.{in_units}
 use Rattle.distort_match.specs.declared.cells.CellParts.{CellParts}
 use Rattle.distort_match.specs.declared.frame.Frame.{Frame}
-use Rattle.distort_match.specs.ListedCells.{cell_matrix, cell_column, supercell_edge, IsCombination, IsCarried, IsBadCell, HasForeignColumn, HasForeignEdge}
-use Rattle.distort_match.specs.Matches.{IsPlace, IsOnGrid}
-use Rattle.distort_match.specs.CellPieces.{column_of, IsMultipleUnder, AreCellParts, HasForeignColumnIn, HasForeignEdgeIn, IsBadParts, IsShiftUnder, AreShiftsUnder}
+use Rattle.distort_match.specs.ListedCells.{cell_matrix, cell_column, supercell_edge, IsCombination, IsCarried, IsBadCell}
+use Rattle.distort_match.specs.Matches.{IsPlace}
+use Rattle.distort_match.specs.CellPieces.{column_of, IsMultipleUnder, AreCellParts, IsBadParts, IsShiftUnder, AreShiftsUnder}
 use Rattle.distort_match.specs.FrameParts.{IsCarriedBy, IsPlaceIn, IsFrameOf}
 use Rattle.distort_match.proofs.CombinationLemmas.{combination_multiple, multiple_combination}
 use Rattle.distort_match.proofs.UniqueLemmas.{some_same}

@@ -1,8 +1,8 @@
 -- Whole combinations of the columns of a matrix, by Cramer's rule.
-use Rattle.std.proofs.Common.{◌≡◌, refl, sym, ap, ◌∙◌, subst, ℕ, zero, suc, ◌<◌, ◌*◌, ℤ, pos, negsuc, neg_ℤ, ◌+ℤ◌, ◌*ℤ◌, unsigned_abs, [], ◌∷◌, arith}
+use Rattle.std.proofs.Common.{◌≡◌, refl, sym, ap, ◌∙◌, ℕ, zero, suc, ◌*◌, ℤ, pos, negsuc, neg_ℤ, ◌+ℤ◌, ◌*ℤ◌, unsigned_abs, [], ◌∷◌, arith}
 use Rattle.std.proofs.lemmas.Int.{ints, unsigned_abs-mul}
 use Rattle.algebra.specs.Multiples.{IsMultiple}
-use Rattle.algebra.specs.MultipleLaws.{multiple_minus, no_size}
+use Rattle.algebra.specs.MultipleLaws.{no_size}
 use Rattle.algebra.specs.Solve.{Exp, V, exps, at}
 use Rattle.algebra.specs.SolveLaws.{solve}
 use Rattle.algebra.specs.Whole.{whole}

@@ -1,5 +1,5 @@
 -- The displacements of the atoms from their marks, or the first atom without one.
-use Rattle.std.proofs.Common.{◌≡◌, refl, sym, ap, ◌∙◌, subst, ℕ, ◌<◌, ◌≤◌, ◌+◌, inl, inr, ◌⊎◌, ℤ, List, [], ◌∷◌, ◌++◌, length, Option, Some, None, get_or, slice_get, IfSome, arith}
+use Rattle.std.proofs.Common.{◌≡◌, refl, sym, ap, ◌∙◌, subst, ℕ, ◌<◌, ◌≤◌, ◌+◌, inl, inr, ℤ, List, [], ◌∷◌, ◌++◌, length, Option, Some, None, get_or, slice_get, IfSome, arith}
 use Rattle.std.proofs.lemmas.Bool.{cases_lt}
 use Rattle.std.proofs.lemmas.List.{length_push, get_or_push, get_or_append_left, get_or_past}
 use Rattle.std.proofs.lemmas.Option.{slice_get_within}

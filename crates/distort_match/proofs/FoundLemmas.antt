@@ -1,5 +1,5 @@
 -- What is found in two places, at one atom, in an orbit and in all orbits.
-use Rattle.std.proofs.Common.{◌≡◌, refl, sym, ap, ◌∙◌, subst, ℕ, ◌<◌, ◌+◌, inl, inr, ◌⊎◌, ℤ, List, [], length, Option, Some, None, slice_get, arith}
+use Rattle.std.proofs.Common.{◌≡◌, refl, sym, ap, ◌∙◌, subst, ℕ, ◌<◌, ◌+◌, inl, inr, ◌⊎◌, ℤ, List, length, Option, Some, None, slice_get, arith}
 use Rattle.std.proofs.lemmas.Bool.{cases_lt}
 use Rattle.space_ops.specs.Matrix.{Vector}
 use Rattle.space_ops.specs.Op.{vector_of}
@@ -8,7 +8,7 @@ use Rattle.wyckoff.specs.Places.{place_at}
 use Rattle.distort_match.specs.declared.found.Found.{Found}
 use Rattle.distort_match.specs.declared.found.Found.TheVariants.{Nothing, One, Many}
 use Rattle.distort_match.specs.Matches.{IsDisplacement}
-use Rattle.distort_match.specs.FoundParts.{IsDisplacementFound, IsOnly, AreTwo, IsFound, both_of, found_of, IsAtomBelow, IsAtomAt, IsAtomIn, IsAtomOf}
+use Rattle.distort_match.specs.FoundParts.{IsDisplacementFound, IsOnly, AreTwo, IsFound, both_of, found_of, IsAtomBelow, IsAtomIn, IsAtomOf}
 
 module _ (P R : ℕ → ℕ → Vector ℤ → Type 0) (to : (o i : ℕ) (v : Vector ℤ) → P o i v → R o i v) where
   two_to : AreTwo P → AreTwo R

@@ -1,5 +1,5 @@
 -- The places of a line by their numbers, in the frame.
-use Rattle.std.proofs.Common.{◌≡◌, refl, sym, ap, ◌∙◌, subst, ℕ, ◌<◌, ◌+◌, inl, inr, ◌⊎◌, ℤ, neg_ℤ, ◌+ℤ◌, List, [], length, Option, Some, None, slice_get, arith}
+use Rattle.std.proofs.Common.{◌≡◌, refl, sym, ap, ◌∙◌, subst, ℕ, ◌+◌, inl, inr, ◌⊎◌, ℤ, neg_ℤ, ◌+ℤ◌, List, length, Option, Some, None, slice_get, arith}
 use Rattle.std.proofs.lemmas.Int.{ints}
 use Rattle.std.proofs.lemmas.Option.{slice_get_within}
 use Rattle.algebra.specs.Whole.{whole}

@@ -1,8 +1,7 @@
 -- What a place has found, among the marks.
-use Rattle.std.proofs.Common.{◌≡◌, refl, sym, ap, ◌∙◌, subst, ℕ, ◌<◌, inl, inr, ◌⊎◌, ℤ, List, [], length, Option, Some, None, get_or, set, slice_get, Result, Ok, Err, OnOk, IfOk, IfErr, arith}
+use Rattle.std.proofs.Common.{◌≡◌, sym, ap, ◌∙◌, subst, ℕ, ◌<◌, inl, inr, ◌⊎◌, ℤ, List, [], length, Option, Some, get_or, set, Result, Ok, Err, OnOk, IfOk, IfErr, arith}
 use Rattle.std.proofs.lemmas.Bool.{cases_order}
 use Rattle.std.proofs.lemmas.List.{get_or-set_same, get_or-set_other, length-set}
-use Rattle.std.proofs.lemmas.Option.{slice_get_within}
 use Rattle.space_ops.specs.Matrix.{Vector}
 use Rattle.space_ops.specs.Op.{vector_of}
 use Rattle.wyckoff.specs.Orbit.{OrbitView}
@@ -10,8 +9,8 @@ use Rattle.distort_match.specs.declared.errors.MatchError.{MatchError}
 use Rattle.distort_match.specs.declared.errors.MatchError.TheVariants.{Unmatched, Ambiguous, MissingAtom, BadCell, OffGrid, NoMemory}
 use Rattle.distort_match.specs.declared.found.Found.{Found}
 use Rattle.distort_match.specs.declared.found.Found.TheVariants.{Nothing, One, Many}
-use Rattle.distort_match.specs.FoundParts.{IsOnly, AreTwo, IsFound, IsAtomOf}
-use Rattle.distort_match.specs.MarkParts.{mark_at, set_mark, AreMarksFor, IsPlaced, IsTakenMark, IsPlaceCause, IsFoundInside, IsFoundTaken, IsFoundRefused}
+use Rattle.distort_match.specs.FoundParts.{IsFound, IsAtomOf}
+use Rattle.distort_match.specs.MarkParts.{set_mark, AreMarksFor, IsPlaced, IsPlaceCause, IsFoundInside, IsFoundTaken, IsFoundRefused}
 
 abbrev Marks : Type 0
 Marks = List (List (Option (List ℤ)))

@@ -6,12 +6,11 @@ use Rattle.std.proofs.lemmas.Option.{slice_get_within}
 use Rattle.iso_text.specs.declared.sections.AtomText.{AtomText}
 use Rattle.space_ops.specs.Matrix.{Vector}
 use Rattle.space_ops.specs.Op.{vector_of, shift_of}
-use Rattle.wyckoff.specs.Orbit.{OrbitView}
 use Rattle.wyckoff.specs.Places.{place_at}
 use Rattle.distort_match.specs.Matches.{Matching, IsOnGrid, ListedPlace, IsDisplacement, Matches, MatchesAtom}
-use Rattle.distort_match.specs.Outcomes.{IsEarlier, MatchesOne, MatchesTwo, IsAcceptedTo, IsUnmatched, IsAmbiguous}
-use Rattle.distort_match.specs.FoundParts.{IsOnly, AreTwo, IsAtomAt, IsAtomOf}
-use Rattle.distort_match.specs.MarkParts.{mark_at, set_mark, AreMarksFor, IsPlaced, IsTakenMark, AreMarked}
+use Rattle.distort_match.specs.Outcomes.{IsEarlier, MatchesOne, IsUnmatched, IsAmbiguous}
+use Rattle.distort_match.specs.FoundParts.{AreTwo, IsAtomOf}
+use Rattle.distort_match.specs.MarkParts.{mark_at, AreMarksFor, IsPlaced, IsTakenMark, AreMarked}
 use Rattle.distort_match.proofs.UniqueLemmas.{some_same, place_line, place-unique}
 
 abbrev Marks : Type 0

@@ -1,5 +1,5 @@
 -- A listed place is one place, an atom has one displacement, and accepted places match different atoms.
-use Rattle.std.proofs.Common.{◌≡◌, refl, sym, ap, ◌∙◌, subst, ℕ, zero, suc, ◌<◌, ◌≤◌, ◌+◌, ◌*◌, inl, inr, ◌⊎◌, ℤ, pos, neg_ℤ, ◌+ℤ◌, ◌*ℤ◌, ◌≤ℤ◌, ◌<ℤ◌, List, [], length, Option, Some, None, slice_get, arith}
+use Rattle.std.proofs.Common.{◌≡◌, sym, ap, ◌∙◌, subst, ℕ, ◌<◌, ◌≤◌, ◌*◌, inl, inr, ℤ, pos, neg_ℤ, ◌+ℤ◌, ◌*ℤ◌, ◌<ℤ◌, List, length, Option, Some, None, arith}
 use Rattle.std.proofs.lemmas.Bool.{cases_order}
 use Rattle.std.proofs.lemmas.Int.{ints}
 use Rattle.std.proofs.lemmas.Option.{slice_get_within}
@@ -17,7 +17,7 @@ use Rattle.wyckoff.specs.Orbit.{OrbitView}
 use Rattle.wyckoff.specs.Places.{place_at}
 use Rattle.distort_match.specs.ListedCells.{IsCarried}
 use Rattle.distort_match.specs.Matches.{Matching, IsPlace, ListedPlace, IsDisplacement, Matches, MatchesAtom}
-use Rattle.distort_match.specs.Outcomes.{IsEarlier, IsTaken, MatchesOne, IsAcceptedTo, IsAccepted}
+use Rattle.distort_match.specs.Outcomes.{IsEarlier, IsAccepted}
 use Rattle.distort_match.specs.FoundParts.{IsAlong}
 use Rattle.distort_match.proofs.AlongLemmas.{along_x, along_y, along_z}
 

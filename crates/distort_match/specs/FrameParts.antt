@@ -7,7 +7,7 @@
 -- IsFrameHeld frame: its bounds
 -- IsMatchingIn d orbits listed tolerance frame m: what is matched, in this frame
 -- IsNumberTaken, IsNumberCause: place number t of a line is taken, or refused
-use Rattle.std.specs.Prelude.{◌≡◌, ⊤, ◌↔◌, ℕ, ◌*◌, ℤ, pos, neg_ℤ, ◌+ℤ◌, ◌*ℤ◌, List, length, Option, Some, IfSome, MatchOption, slice_get}
+use Rattle.std.specs.Prelude.{◌≡◌, ⊤, ◌↔◌, ℕ, ℤ, pos, neg_ℤ, ◌+ℤ◌, ◌*ℤ◌, List, length, Option, Some, IfSome, MatchOption, slice_get}
 use Rattle.std.specs.List.{All}
 use Rattle.algebra.specs.Whole.{whole}
 use Rattle.iso_text.specs.declared.sections.AtomText.{AtomText}

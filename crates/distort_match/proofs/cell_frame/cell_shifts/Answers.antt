@@ -1,4 +1,4 @@
-use Rattle.std.proofs.Common.{◌≡◌, sym, subst, ℕ, ◌<◌, ◌+◌, ℤ, List, [], Option, length, get_or}
+use Rattle.std.proofs.Common.{sym, subst, ℕ, ◌<◌, ◌+◌, ℤ, List, [], Option, length, get_or}
 use Rattle.std.specs.List.{All}
 use Rattle.std.specs.Prelude.{MatchOption, ⊤}
 use Rattle.space_ops.specs.Op.{vector_of, IsShiftWithin}

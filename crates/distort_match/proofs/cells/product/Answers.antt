@@ -1,4 +1,4 @@
-use Rattle.std.proofs.Common.{◌≡◌, ℤ, ◌*ℤ◌, FitsSigned, to_z, of_z, w32, lit<}
+use Rattle.std.proofs.Common.{ℤ, ◌*ℤ◌, FitsSigned, to_z, of_z, w32, lit<}
 use Rattle.std.proofs.lemmas.Int.{to_z-of_z, fits_signed_mul}
 use Rattle.space_ops.specs.Op.{IsWithin}
 use Rattle.space_ops.specs.WithinLaws.{abs_of_within, within_product}

@@ -1,4 +1,4 @@
-use Rattle.std.proofs.Common.{◌≡◌, ◌/◌, ◌≤◌, ℤ, pos, to_z, of_z, w32, lit<, rules, arith}
+use Rattle.std.proofs.Common.{◌≡◌, ◌/◌, ◌≤◌, pos, to_z, of_z, w32, lit<, rules, arith}
 use Rattle.std.proofs.lemmas.Int.{ints, fits_signed_mul}
 use Rattle.std.proofs.Math.Nat.{div-le_self}
 use Rattle.space_ops.specs.Op.{IsWithin}

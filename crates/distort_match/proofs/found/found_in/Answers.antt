@@ -1,7 +1,6 @@
-use Rattle.std.proofs.Common.{◌≡◌, sym, ap, ◌∙◌, subst, ℕ, ◌+◌, ℤ, List, length, w64, to_z, of_z, arith}
+use Rattle.std.proofs.Common.{◌≡◌, sym, ap, ◌∙◌, subst, ℕ, ◌+◌, ℤ, List, length, w64, arith}
 use Rattle.algebra.specs.PassedLaws.{passed, passed-from}
 use Rattle.space_ops.specs.Op.{vector_of}
-use Rattle.distort_match.specs.declared.found.Found.{Found}
 use Rattle.distort_match.specs.FoundParts.{IsDisplacementFound, IsAtomBelow, IsFound, both_of}
 use Rattle.distort_match.proofs.FoundLemmas.{atom_more}
 use Rattle.distort_match.proofs.found.found_in.Goals as goal

@@ -1,4 +1,4 @@
-use Rattle.std.proofs.Common.{◌≡◌, ℤ, to_z, of_z, w64, lit<, rules}
+use Rattle.std.proofs.Common.{◌≡◌, to_z, of_z, w64, lit<, rules}
 use Rattle.std.proofs.lemmas.Int.{fits_signed_mul}
 use Rattle.space_ops.specs.WithinLaws.{abs_of_within, within_product}
 use Rattle.distort_match.proofs.ProductLemmas.{product_near}

@@ -1,6 +1,4 @@
 use Rattle.distort_match.proofs.UniqueLemmas.{match-unique, matched-once}
-use Rattle.distort_match.proofs.StepLemmas.{number_skipped}
-use Rattle.distort_match.proofs.CombinationLemmas.{combination_multiple}
 use Rattle.distort_match.proofs.laws.law_of_matches.Goals as goal
 
 pub returns-clause-one : goal.returns-clause-one

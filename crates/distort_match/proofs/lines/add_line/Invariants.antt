@@ -1,4 +1,3 @@
-use Rattle.std.proofs.Common.{ℕ}
 use Rattle.distort_match.specs.Matches.{Matching}
 use Rattle.distort_match.specs.FrameParts.{IsMatchingIn}
 use Rattle.distort_match.specs.MarkParts.{AreMarksFor, AreMarked}

@@ -2,7 +2,6 @@ use Rattle.std.proofs.Common.{ℤ, length, w64}
 use Rattle.algebra.specs.PassedLaws.{passed-from}
 use Rattle.space_ops.specs.Op.{vector_of}
 use Rattle.distort_match.specs.FoundParts.{IsFound, IsAtomOf}
-use Rattle.distort_match.specs.MarkParts.{AreMarksFor, IsPlaced, IsPlaceCause, IsFoundTaken, IsFoundRefused}
 use Rattle.distort_match.proofs.PlaceLemmas.{found_inside, taken_kept, taken_placed, refused_cause, ok_map, err_map}
 use Rattle.distort_match.proofs.lines.add_place.Goals as goal
 

@@ -1,4 +1,4 @@
-use Rattle.std.proofs.Common.{◌≡◌, sym, ◌∙◌, subst, ℕ, ◌+◌, ℤ, List, [], length, get_or, arith}
+use Rattle.std.proofs.Common.{◌≡◌, sym, ◌∙◌, subst, ℕ, ◌+◌, [], length, get_or, arith}
 use Rattle.distort_match.specs.MarkParts.{AreAllMarked}
 use Rattle.distort_match.proofs.FinishLemmas.{none_marked, row_more}
 use Rattle.distort_match.proofs.marks.orbit_shifts.Goals as goal

@@ -1,4 +1,4 @@
-use Rattle.std.proofs.Common.{◌≡◌, sym, ap, ◌∙◌, subst, ℕ, ◌<◌, ◌+◌, ℤ, List, [], Option, length, get_or, arith}
+use Rattle.std.proofs.Common.{◌≡◌, sym, ap, ◌∙◌, subst, ℕ, ◌<◌, ◌+◌, ℤ, List, [], Option, length, arith}
 use Rattle.std.proofs.lemmas.List.{get_or_default}
 use Rattle.distort_match.specs.MarkParts.{AreAllMarked, AreAllShifts, IsOrbitCause}
 use Rattle.distort_match.proofs.FinishLemmas.{AreShiftsBefore, none_before, orbit_before, all_before, missing_cause}

@@ -1,4 +1,4 @@
-use Rattle.std.proofs.Common.{◌≡◌, refl, sym, ℤ, List, Option, option_copied, subst, w64}
+use Rattle.std.proofs.Common.{refl, sym, ℤ, List, Option, option_copied, subst, w64}
 use Rattle.std.proofs.lemmas.Int.{to_z-of_z}
 use Rattle.distort_match.specs.Matches.{Matching}
 use Rattle.distort_match.specs.MarkParts.{AreAllShifts, IsMissingCause}
