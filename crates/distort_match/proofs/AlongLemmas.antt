@@ -1,6 +1,7 @@
 -- One coordinate of a displacement, and the three together.
-use Rattle.std.proofs.Common.{◌≡◌, refl, sym, ap, ◌∙◌, subst, ℕ, ◌<◌, ◌≤◌, ◌*◌, inl, inr, ◌⊎◌, ℤ, pos, negsuc, neg_ℤ, ◌+ℤ◌, ◌*ℤ◌, ◌≤ℤ◌, ◌<ℤ◌, List, Option, Some, None, arith}
+use Rattle.std.proofs.Common.{◌≡◌, refl, sym, ap, ◌∙◌, subst, ℕ, ◌<◌, ◌≤◌, ◌*◌, inl, inr, ◌⊎◌, ℤ, pos, negsuc, neg_ℤ, ◌+ℤ◌, ◌*ℤ◌, ◌≤ℤ◌, ◌<ℤ◌, List, length, slice_index_or, Option, Some, None, arith}
 use Rattle.std.proofs.lemmas.Int.{ints}
+use Rattle.std.proofs.lemmas.List.{get_or_default}
 use Rattle.std.specs.Int.{int_rem_euclid}
 use Rattle.algebra.specs.Multiples.{IsMultiple, IsWithinModulus}
 use Rattle.algebra.specs.MultipleLaws.{multiple_sum, multiple_minus, rem-within, rem-differs, within-unique}
@@ -121,3 +122,13 @@ module _ (n n' : ℕ) (t t' x x' a a' : ℤ) (e : n ≡ n') (f : t ≡ t') (g : 
 
   pub none_passed : ((v : ℤ) → IsAlong n t x a v → ⊥) → (v : ℤ) → IsAlong n' t' x' a' v → ⊥
   none_passed h v m = h v (subst (λ (A : Type 0). A) (λ i. IsAlong (sym e i) (sym f i) (sym g i) (sym k i) v) m)
+
+-- multipliers as they are read
+pub multiplier_at : (d : List ℕ) → length d ≡ 3 → (i : ℕ) → i < 3 → slice_index_or d i 0 ≡ multiplier d i
+multiplier_at d l i b = get_or_default d i 0 1 (omega (arith, l, b))
+
+pub positive_at : (d : List ℕ) → length d ≡ 3 → ((i : ℕ) → i < 3 → 0 < multiplier d i) → (i : ℕ) → i < 3 → 0 < slice_index_or d i 0
+positive_at d l p i b = subst (λ n. 0 < n) (sym (multiplier_at d l i b)) (p i b)
+
+pub few_at : (d : List ℕ) → length d ≡ 3 → ((i : ℕ) → i < 3 → multiplier d i ≤ 12) → (i : ℕ) → i < 3 → slice_index_or d i 0 ≤ 12
+few_at d l p i b = subst (λ n. n ≤ 12) (sym (multiplier_at d l i b)) (p i b)

@@ -10,4 +10,5 @@ pub mod PlaceLemmas
 pub mod ProductLemmas
 pub mod StepLemmas
 pub mod UniqueLemmas
+pub mod WindowLemmas
 pub mod WrittenLemmas

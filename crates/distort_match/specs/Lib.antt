@@ -14,3 +14,5 @@ pub mod MarkParts
 pub mod FrameParts
 -- the parts of a cell
 pub mod CellPieces
+-- the atoms of an orbit that may be near a place
+pub mod WindowParts

@@ -1,9 +1,11 @@
 // The atoms that are in a place, up to a tolerance.
-ghost use Rattle.std.specs.Prelude.{◌≡◌, ℕ, ◌<◌, ◌≤◌, ◌*◌, pos, ◌≤ℤ◌, ◌<ℤ◌, length, List};
+ghost use Rattle.std.specs.Prelude.{◌≡◌, ℕ, ◌<◌, ◌≤◌, ◌*◌, pos, ◌≤ℤ◌, ◌<ℤ◌, length, List, slice_index};
 ghost use Rattle.space_ops.specs.Op.{vector_of, IsWithin, IsShiftWithin};
 ghost use Rattle.super_group.specs.Supercell.{multiplier};
 ghost use Rattle.distort_match.specs.FoundParts.{IsNearestOf, IsAlongFound, IsDisplacementFound, IsAtomBelow, IsAtomIn, IsAtomOf, IsFound, found_of, both_of};
+ghost use Rattle.distort_match.specs.WindowParts.{IsAlongRising, IsInLength, AreSorted};
 
+use crate::windows::windows_of;
 use iso_text::{Name, UNITS_PER_EDGE};
 use wyckoff::{Orbit, Orbits};
 
@@ -94,21 +96,57 @@ fn found_atom(orbit: usize, atom: usize, shift: Option<[i64; 3]>) -> Found
     }
 }
 
-// The atoms of orbit number o that a place matches.
+// What is found before the second of two numbers, after what is found before the first.
+fn found_between(
+    found: Found,
+    orbit: &Orbit,
+    o: usize,
+    x: [i64; 3],
+    d: [u32; 3],
+    tolerance: i64,
+    between: [usize; 2],
+) -> Found
+    requires place { IsShiftWithin 100000000000000 x }
+    requires positive { (i : ℕ) → i < 3 → 0 < multiplier d i }
+    requires few { (i : ℕ) → i < 3 → multiplier d i ≤ 12 }
+    requires some { pos 0 ≤ℤ tolerance }
+    requires small { tolerance <ℤ pos 3000000 }
+    requires order { slice_index between 0 ≤ slice_index between 1 }
+    requires within { slice_index between 1 ≤ length orbit.now.places }
+    requires before { IsFound (IsAtomBelow d tolerance (vector_of x) o orbit.now.places (slice_index between 0)) found }
+    ensures { IsFound (IsAtomBelow d tolerance (vector_of x) o orbit.now.places (slice_index between 1)) result }
+{
+    let mut found = found;
+    for i in between[0]..between[1] {
+        let shift = displacement(x, orbit.place(i), d, tolerance);
+        found = both(found, found_atom(o, i, shift));
+    }
+    found
+}
+
+// The atoms of orbit number o that a place matches: those that aren't near along x are passed over.
 fn found_in(orbit: &Orbit, o: usize, x: [i64; 3], d: [u32; 3], tolerance: i64) -> Found
     requires place { IsShiftWithin 100000000000000 x }
     requires positive { (i : ℕ) → i < 3 → 0 < multiplier d i }
     requires few { (i : ℕ) → i < 3 → multiplier d i ≤ 12 }
     requires some { pos 0 ≤ℤ tolerance }
     requires small { tolerance <ℤ pos 3000000 }
+    requires rising { IsAlongRising orbit.now.places }
+    requires inside { IsInLength (12000000 * multiplier d 0) orbit.now.places }
     ensures { IsFound (IsAtomBelow d tolerance (vector_of x) o orbit.now.places (length orbit.now.places)) result }
 {
-    let mut found = Found::Nothing;
-    for i in 0..orbit.atoms() {
-        let shift = displacement(x, orbit.place(i), d, tolerance);
-        found = both(found, found_atom(o, i, shift));
-    }
-    found
+    let near = windows_of(orbit, x[0], d[0], tolerance);
+    let low = found_between(Found::Nothing, orbit, o, x, d, tolerance, [0, near.low]);
+    let middle = found_between(low, orbit, o, x, d, tolerance, [near.start, near.end]);
+    found_between(
+        middle,
+        orbit,
+        o,
+        x,
+        d,
+        tolerance,
+        [near.high, orbit.atoms()],
+    )
 }
 
 // The atoms of orbit number o that a place with this label matches.
@@ -121,6 +159,7 @@ fn found_labelled(
     tolerance: i64,
 ) -> Found
     requires orbit { o < length orbits.now }
+    requires sorted { AreSorted d orbits.now }
     requires place { IsShiftWithin 100000000000000 x }
     requires positive { (i : ℕ) → i < 3 → 0 < multiplier d i }
     requires few { (i : ℕ) → i < 3 → multiplier d i ≤ 12 }
@@ -144,6 +183,7 @@ pub(crate) fn found_at(
     d: [u32; 3],
     tolerance: i64,
 ) -> Found
+    requires sorted { AreSorted d orbits.now }
     requires place { IsShiftWithin 100000000000000 x }
     requires positive { (i : ℕ) → i < 3 → 0 < multiplier d i }
     requires few { (i : ℕ) → i < 3 → multiplier d i ≤ 12 }

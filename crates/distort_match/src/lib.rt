@@ -20,6 +20,7 @@ mod lines;
 mod marks;
 mod matching;
 mod shifts;
+mod windows;
 
 pub use errors::MatchError;
 pub use laws::law_of_matches;

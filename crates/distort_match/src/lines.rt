@@ -11,6 +11,7 @@ ghost use Rattle.distort_match.specs.Matches.{Matching};
 ghost use Rattle.distort_match.specs.Outcomes.{IsMatchCause};
 ghost use Rattle.distort_match.specs.FoundParts.{IsAtomOf};
 ghost use Rattle.distort_match.specs.FrameParts.{IsMatchingIn, IsFrameHeld, IsNumberTaken, IsNumberCause};
+ghost use Rattle.distort_match.specs.WindowParts.{AreSorted};
 ghost use Rattle.distort_match.specs.MarkParts.{IsPlaced, IsPlaceCause, AreMarksFor, AreMarked};
 
 use crate::errors::MatchError;
@@ -52,6 +53,7 @@ fn add_place(
     line: u32,
     x: [i64; 3],
 ) -> Result<(), MatchError>
+    requires sorted { AreSorted d orbits.now }
     requires positive { (i : ℕ) → i < 3 → 0 < multiplier d i }
     requires few { (i : ℕ) → i < 3 → multiplier d i ≤ 12 }
     requires some { pos 0 ≤ℤ tolerance }
@@ -75,6 +77,7 @@ fn add_number(
     x: [i64; 3],
     shift: Option<[i64; 3]>,
 ) -> Result<(), MatchError>
+    requires sorted { AreSorted d orbits.now }
     requires positive { (i : ℕ) → i < 3 → 0 < multiplier d i }
     requires few { (i : ℕ) → i < 3 → multiplier d i ≤ 12 }
     requires some { pos 0 ≤ℤ tolerance }
@@ -110,6 +113,7 @@ fn add_line(
     listed: &[AtomText],
     n: usize,
 ) -> Result<(), MatchError>
+    requires sorted { AreSorted d orbits.now }
     requires positive { (i : ℕ) → i < 3 → 0 < multiplier d i }
     requires few { (i : ℕ) → i < 3 → multiplier d i ≤ 12 }
     requires some { pos 0 ≤ℤ tolerance }
@@ -145,6 +149,7 @@ pub(crate) fn add_lines(
     frame: &Frame,
     listed: &[AtomText],
 ) -> Result<(), MatchError>
+    requires sorted { AreSorted d orbits.now }
     requires positive { (i : ℕ) → i < 3 → 0 < multiplier d i }
     requires few { (i : ℕ) → i < 3 → multiplier d i ≤ 12 }
     requires some { pos 0 ≤ℤ tolerance }

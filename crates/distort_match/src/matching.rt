@@ -15,7 +15,7 @@ use crate::shifts::Shifts;
 use iso_text::{AtomText, CellText};
 use std::alloc::Global;
 use super_group::Quotient;
-use wyckoff::Orbits;
+use wyckoff::{Orbits, law_of_images};
 
 /// The displacement of each atom of a supercell by the listed atom that matches it. The tolerance is in
 /// units of 1/12,000,000 of a cell edge. With a cell a listed place y stands for the places
@@ -42,6 +42,7 @@ pub fn match_atoms(
     ensures cause { IfErr result (λ error. IsMatchCause (record { group = quotient.now; orbits = orbits.now; listed = listed.now; tolerance = tolerance; cell = option_copied cell.entry }) error) }
 {
     let _ = quotient.order();
+    law_of_images();
     let d = quotient.d();
     let frame = match frame_of(alloc, quotient, cell) {
         Ok(frame) => frame,

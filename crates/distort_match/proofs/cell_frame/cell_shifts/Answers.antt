@@ -21,7 +21,7 @@ loop-t-preserved c =
     let adjugate = c.args.parts.adjugate in
     let k =
     subst (λ (ts : List (List ℤ)). IsShiftUnder size adjugate (vector_of (get_or ts c.loop-t.t [])) c.cell_shift.result) c.translations-translations.ensures c.cell_shift.ensures.value in
-    subst (Held c.args.parts.size c.args.parts.adjugate c.args.quotient.now.translations (c.loop-t.t + 1)) (sym c.in-Ok.ensures.items)
+    subst (Held c.args.parts.size c.args.parts.adjugate c.args.quotient.now.translations (c.loop-t.t + 1)) (sym {A = List (Option (List ℤ))} c.in-Ok.ensures.items)
     (one_shift_more size adjugate c.args.quotient.now.translations c.loop-t.t c.loop-t.shifts.items c.cell_shift.result c.loop-t.invariant k c.cell_shift.ensures.near)
 
 pub cell_shift-requires-clause-translation : goal.cell_shift-requires-clause-translation

@@ -1,19 +1,8 @@
-use Rattle.std.proofs.Common.{◌≡◌, refl, sym, ap, subst, ℕ, ◌<◌, ◌≤◌, ◌*◌, List, length, slice_index_or, w64, rules, arith}
+use Rattle.std.proofs.Common.{refl, sym, ap, ◌*◌, w64, rules, arith}
 use Rattle.std.proofs.lemmas.Int.{to_z-of_z}
-use Rattle.std.proofs.lemmas.List.{get_or_default}
 use Rattle.space_ops.specs.Op.{number_at, vector_of}
-use Rattle.super_group.specs.Supercell.{multiplier}
-use Rattle.distort_match.proofs.AlongLemmas.{displaced, along_x, along_y, along_z, along_passed, none_passed}
+use Rattle.distort_match.proofs.AlongLemmas.{displaced, along_x, along_y, along_z, along_passed, none_passed, multiplier_at, positive_at, few_at}
 use Rattle.distort_match.proofs.found.displacement.Goals as goal
-
-multiplier_at : (d : List ℕ) → length d ≡ 3 → (i : ℕ) → i < 3 → slice_index_or d i 0 ≡ multiplier d i
-multiplier_at d l i b = get_or_default d i 0 1 (omega (arith, l, b))
-
-positive_at : (d : List ℕ) → length d ≡ 3 → ((i : ℕ) → i < 3 → 0 < multiplier d i) → (i : ℕ) → i < 3 → 0 < slice_index_or d i 0
-positive_at d l p i b = subst (λ n. 0 < n) (sym (multiplier_at d l i b)) (p i b)
-
-few_at : (d : List ℕ) → length d ≡ 3 → ((i : ℕ) → i < 3 → multiplier d i ≤ 12) → (i : ℕ) → i < 3 → slice_index_or d i 0 ≤ 12
-few_at d l p i b = subst (λ n. n ≤ 12) (sym (multiplier_at d l i b)) (p i b)
 
 pub displacement_along-requires-in-Some-clause-positive :
     goal.displacement_along-requires-in-Some-clause-positive

@@ -6,6 +6,9 @@ use Rattle.distort_match.specs.FoundParts.{IsAtomIn, IsFound}
 use Rattle.distort_match.proofs.FoundLemmas.{orbit_labelled}
 use Rattle.distort_match.proofs.found.found_labelled.Goals as goal
 
+pub found_in-requires-clause-inside : goal.found_in-requires-clause-inside
+found_in-requires-clause-inside c = c.requires.sorted.inside c.args.o c.get-orbit.result.now c.get-orbit.ensures
+
 pub returns-then-eq : goal.returns-then-eq
 returns-then-eq c =
     let same : c.as_slice.result.now ≡ c.as_slice-2.result.now = (bytes_decides c.as_slice.result.now c.as_slice-2.result.now).0 (sym c.eq.ensures ∙ c.if-eq.true) in

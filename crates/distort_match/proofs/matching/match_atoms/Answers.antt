@@ -1,11 +1,19 @@
-use Rattle.std.proofs.Common.{refl, sym, ℤ, List, Option, option_copied, subst, w64}
+use Rattle.std.proofs.Common.{ℕ, refl, sym, ℤ, List, Option, option_copied, subst, w64}
 use Rattle.std.proofs.lemmas.Int.{to_z-of_z}
 use Rattle.distort_match.specs.Matches.{Matching}
 use Rattle.distort_match.specs.MarkParts.{AreAllShifts, IsMissingCause}
+use Rattle.distort_match.specs.WindowParts.{AreSorted}
 use Rattle.distort_match.proofs.FinishLemmas.{no_marks_made, all_shifts}
 use Rattle.distort_match.proofs.MatchLemmas.{frame_refused, missing_refused}
 use Rattle.distort_match.proofs.PlaceLemmas.{value_map, err_map}
+use Rattle.distort_match.proofs.WindowLemmas.{orbits_sorted}
 use Rattle.distort_match.proofs.matching.match_atoms.Goals as goal
+
+pub add_lines-requires-clause-sorted : goal.add_lines-requires-clause-sorted
+add_lines-requires-clause-sorted c =
+    let s = c.args.quotient.now in
+    subst (λ (d : List ℕ). AreSorted d c.args.orbits.now) (sym c.d-d.ensures)
+    (orbits_sorted s c.requires.orbits.0 c.args.orbits.now c.requires.orbits.1 (λ atom o h i l. c.law_of_images.ensures.inside s atom o c.order.ensures.quotient h i l))
 
 pub returns-in-Err-clause-cause : goal.returns-in-Err-clause-cause
 returns-in-Err-clause-cause c =
