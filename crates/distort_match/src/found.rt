@@ -96,7 +96,8 @@ fn found_atom(orbit: usize, atom: usize, shift: Option<[i64; 3]>) -> Found
     }
 }
 
-// What is found before the second of two numbers, after what is found before the first.
+// The atoms of orbit number o that a place matches, of those before the second of two numbers, where
+// `found` tells those before the first.
 fn found_between(
     found: Found,
     orbit: &Orbit,
@@ -124,7 +125,7 @@ fn found_between(
     found
 }
 
-// The atoms of orbit number o that a place matches: those that aren't near along x are passed over.
+// The atoms of orbit number o that a place matches. Those that can't be near along x are passed over.
 fn found_in(orbit: &Orbit, o: usize, x: [i64; 3], d: [u32; 3], tolerance: i64) -> Found
     requires place { IsShiftWithin 100000000000000 x }
     requires positive { (i : ℕ) → i < 3 → 0 < multiplier d i }

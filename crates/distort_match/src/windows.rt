@@ -93,7 +93,7 @@ fn high_start(rest: i64, length: i64, tolerance: i64) -> i64
     rest - tolerance + length
 }
 
-// The same for a remainder modulo the length of the supercell.
+// The windows of a remainder modulo the length of the supercell.
 fn windows_at(orbit: &Orbit, rest: i64, length: i64, tolerance: i64) -> Windows
     requires rising { IsAlongRising orbit.now.places }
     requires rest { IsWithin 144000000 rest }
