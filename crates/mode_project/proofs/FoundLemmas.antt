@@ -16,7 +16,7 @@ got (x ∷ xs) zero s e = let h : Some x ≡ Some s = e in cc
 got (x ∷ xs) (suc k) s e = got xs k s e
 
 module _ {K : Type 0} (f : FieldOn K) where
-  at-unit : (sites : List ℕ) (m : ℕ) → m < length sites → vector_at f (map (unit_vector f) sites) m ≡ unit_vector f (slice_index sites m)
+  pub at-unit : (sites : List ℕ) (m : ℕ) → m < length sites → vector_at f (map (unit_vector f) sites) m ≡ unit_vector f (slice_index sites m)
   at-unit [] m l = absurd (omega (arith, l))
   at-unit (p ∷ sites) zero l = refl
   at-unit (p ∷ sites) (suc m) l = at-unit sites m (omega (arith, l))
@@ -43,7 +43,7 @@ line-is {A} {Z} rows m r l e =
     let line : ℕ × Vec A Z → ℕ × List A = λ x. (x.0, x.1.items) in
     get_or-map line rows m r (0, []) l ∙ ap line (sym e)
 
-lines-length : {A Z : Type 0} (rows : List (ℕ × Vec A Z)) → length (lines_in rows) ≡ length rows
+pub lines-length : {A Z : Type 0} (rows : List (ℕ × Vec A Z)) → length (lines_in rows) ≡ length rows
 lines-length [] = refl
 lines-length (r ∷ rows) = ap suc (lines-length rows)
 

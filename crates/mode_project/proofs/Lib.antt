@@ -16,3 +16,6 @@ mod LeftLemmas
 mod LeftCode
 mod DirectionLemmas
 mod WeightLemmas
+mod AmplitudeLemmas
+mod PivotLemmas
+mod SolvedLemmas

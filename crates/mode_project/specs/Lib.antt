@@ -42,3 +42,9 @@ pub mod WideParts
 pub mod ModesInside
 -- what the parts of the code of a direction's modes give
 pub mod DirectionParts
+-- amplitudes: the factors of modes whose sum is a given vector
+pub mod Amplitudes
+-- what amplitudes obey
+pub mod AmplitudeLaws
+-- what the parts of the code of amplitudes give
+pub mod AmplitudeParts

@@ -12,6 +12,7 @@ ghost use Rattle.wyckoff.specs.Orbit.{OrbitView, IsOrbitOf};
 ghost use Rattle.mode_project.specs.AtomSpace.{AtomSpace, IsAtomSpace, IsOrbit, size_of, matrix_of, displacements};
 ghost use Rattle.mode_project.specs.Projection.{projection, IsInRange, IsInSum, column_of};
 ghost use Rattle.mode_project.specs.Modes.{AreModes, all_modes, vector_at, before_irrep};
+ghost use Rattle.mode_project.specs.Amplitudes.{AreAmplitudes, IsModeBasis};
 ghost use Rattle.mode_project.specs.DirectionModes.{AreModesOf};
 ghost use Rattle.mode_project.specs.OneBasis.{AreAlike};
 
@@ -40,6 +41,13 @@ pub fn law_of_modes<F: Field>()
     ensures independent { (s : AtomSpace) (ws : List (ℕ → Value F.field)) (ms : List (ℕ × (ℕ → Value F.field))) (sites : List ℕ) → AreModes F.field.laws s ws ms sites → AreIndependent F.field.laws (size_of s) (vector_at F.field.laws (all_modes F.field.laws ms sites)) }
     ensures spanning { (s : AtomSpace) (ws : List (ℕ → Value F.field)) (ms : List (ℕ × (ℕ → Value F.field))) (sites : List ℕ) → AreModes F.field.laws s ws ms sites → AreSame (IsInSpan F.field.laws (all_modes F.field.laws ms sites)) (IsWithin F.field.laws (size_of s)) }
     ensures sums { (s : AtomSpace) (ws : List (ℕ → Value F.field)) (ms : List (ℕ × (ℕ → Value F.field))) (sites : List ℕ) → AreModes F.field.laws s ws ms sites → (j : ℕ) → j ≤ length ws → AreSame (IsInSpan F.field.laws (row_vectors (before_irrep j ms))) (IsInSum F.field.laws s (take j ws)) }
+{}
+
+/// The modes of an orbit are a basis with rising sites, and a vector has one list of amplitudes in a
+/// basis.
+pub fn law_of_amplitudes<F: Field>()
+    ensures basis { (s : AtomSpace) (ws : List (ℕ → Value F.field)) (ms : List (ℕ × (ℕ → Value F.field))) (sites : List ℕ) → AreModes F.field.laws s ws ms sites → IsModeBasis F.field.laws (size_of s) ms sites }
+    ensures one { (d : ℕ) (ms : List (ℕ × (ℕ → Value F.field))) (sites : List ℕ) (v a b : ℕ → Value F.field) → IsModeBasis F.field.laws d ms sites → AreAmplitudes F.field.laws d (vector_at F.field.laws (all_modes F.field.laws ms sites)) d v a → AreAmplitudes F.field.laws d (vector_at F.field.laws (all_modes F.field.laws ms sites)) d v b → (m : ℕ) → m < d → a m ≡ b m }
 {}
 
 /// Alike spaces have one list of modes, and one for each irrep and direction.

@@ -10,6 +10,7 @@
 mod basis;
 mod column;
 mod combined;
+mod cut;
 mod direction;
 mod displaced;
 mod errors;
@@ -20,10 +21,12 @@ mod irreps;
 mod joint;
 mod laws;
 mod left;
+mod pivots;
 mod range;
 mod rotations;
 mod rows;
 mod sites;
+mod solved;
 mod space;
 mod table;
 mod turns;
@@ -34,6 +37,7 @@ pub use direction::modes_of;
 pub use errors::ModeError;
 pub use found::Modes;
 pub use laws::{
-    law_of_displacements, law_of_modes, law_of_one_basis, law_of_one_orbit, law_of_projections,
+    law_of_amplitudes, law_of_displacements, law_of_modes, law_of_one_basis, law_of_one_orbit,
+    law_of_projections,
 };
 pub use weights::Weights;

@@ -34,7 +34,7 @@ pub(crate) fn rows_of<F: Field>(alloc: Global, form: &Echelon<F>) -> Result<Vec<
 }
 
 // Writes row i.
-fn put_row<F: Field>(table: &mut Matrix<F>, i: usize, row: &[F])
+pub(crate) fn put_row<F: Field>(table: &mut Matrix<F>, i: usize, row: &[F])
     requires place { i < table.old.rows }
     requires width { length row.now ≡ table.old.cols }
     ensures rows { table.new.rows ≡ table.old.rows }
