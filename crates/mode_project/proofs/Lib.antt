@@ -19,3 +19,4 @@ mod WeightLemmas
 mod AmplitudeLemmas
 mod PivotLemmas
 mod SolvedLemmas
+mod OrbitLemmas

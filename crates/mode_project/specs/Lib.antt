@@ -48,3 +48,5 @@ pub mod Amplitudes
 pub mod AmplitudeLaws
 -- what the parts of the code of amplitudes give
 pub mod AmplitudeParts
+-- amplitudes of the modes of an orbit
+pub mod OrbitAmplitudes

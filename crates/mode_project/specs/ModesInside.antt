@@ -1,7 +1,7 @@
 -- What contracts see of the fields of modes.
 --
 -- view_of s: the modes
--- IsHeld s: each row has as many entries as there are columns, the columns of the others are columns, and there are few modes
+-- IsHeld s: each row has as many entries as there are columns, the columns of the others are columns, and there are few modes and columns
 use Rattle.std.specs.Prelude.{◌≡◌, ℕ, ◌+◌, ◌<◌, ◌^◌, length, slice_index}
 use Rattle.mode_project.specs.Joined.{lines_in, AreLong}
 use Rattle.mode_project.specs.ModesView.{ModesView}
@@ -14,3 +14,4 @@ pub record IsHeld (s : Inside) : Type 0 where
   pub long : AreLong s.size (lines_in s.rows.items)
   pub inside : (k : ℕ) → k < length s.sites.items → slice_index s.sites.items k < s.size
   pub few : length s.rows.items + length s.sites.items < 2 ^ 64
+  pub small : s.size < 2 ^ 16

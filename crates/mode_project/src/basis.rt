@@ -67,6 +67,7 @@ fn find_modes(
     ensures size { IfOk result (λ m. m.size ≡ length orbit.now.places * 3) }
     ensures wide { (f : ℕ) → (result ≡ Err (mode_error.Wide f)) → (f ≡ 5) × IsWideModes k24 (displacements quotient.now orbit.now) (exact_weights weights.now) }
 {
+    let _atoms = orbit.atoms();
     let joint = match displacement_modes::<Brand, K24>(alloc, quotient, orbit, weights.lists()) {
         Ok(joint) => joint,
         Err(LinError::Wide) => return Err(ModeError::Wide(FAMILY)),

@@ -34,11 +34,35 @@ impl Modes {
         requires long { AreLong size (lines_in rows.items) }
         requires inside { (k : ℕ) → k < length sites.items → slice_index sites.items k < size }
         requires few { length rows.items + length sites.items < 2 ^ 64 }
+        requires small { size < 2 ^ 16 }
         ensures size { result.size ≡ size }
         ensures rows { result.rows ≡ lines_in rows.items }
         ensures sites { result.sites ≡ sites.items }
     {
         Modes { size, rows, sites }
+    }
+
+    // How many numbers a mode has.
+    pub(crate) fn size(&self) -> usize
+        ensures value { result ≡ self.now.size }
+        ensures small { self.now.size < 2 ^ 16 }
+    {
+        self.size
+    }
+
+    // The modes of irreps, each with the number of its irrep.
+    pub(crate) fn rows(&self) -> &[(usize, Vec<K24>)]
+        ensures rows { lines_in result.now ≡ self.now.rows }
+        ensures long { AreLong self.now.size (lines_in result.now) }
+    {
+        &self.rows
+    }
+
+    // The columns of the unit vectors.
+    pub(crate) fn sites(&self) -> &[usize]
+        ensures { result.now ≡ self.now.sites }
+    {
+        &self.sites
     }
 
     /// How many modes there are: as many as columns.

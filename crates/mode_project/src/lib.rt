@@ -21,6 +21,7 @@ mod irreps;
 mod joint;
 mod laws;
 mod left;
+mod orbit_amplitudes;
 mod pivots;
 mod range;
 mod rotations;
@@ -34,10 +35,11 @@ mod weights;
 
 pub use basis::modes;
 pub use direction::modes_of;
-pub use errors::ModeError;
+pub use errors::{AmpError, ModeError};
 pub use found::Modes;
 pub use laws::{
     law_of_amplitudes, law_of_displacements, law_of_modes, law_of_one_basis, law_of_one_orbit,
     law_of_projections,
 };
+pub use orbit_amplitudes::amplitudes;
 pub use weights::Weights;
