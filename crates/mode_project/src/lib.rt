@@ -3,8 +3,9 @@
 //! Source: Serre, Linear Representations of Finite Groups, 2.6, for the projections, which aren't
 //! normalised here. Conventions: a displacement is a column along the cell edges, number a of atom i in
 //! column 3 i + a, from 0; column m of M(q) is the image of unit vector m.
-//! For the layer above: `modes` gives the defined modes, which are a basis, and `modes_of` those of one
-//! irrep that a stabiliser leaves as they are. The smallest call: `modes(alloc, &quotient, &orbit, &weights)`.
+//! For the layer above: `modes` gives the defined modes, which are a basis, `modes_of` those of one
+//! irrep that a stabiliser leaves as they are, and `amplitudes` the one list of factors with which the
+//! modes sum up to a displacement. The smallest call: `modes(alloc, &quotient, &orbit, &weights)`.
 #![tactic(auto)]
 
 mod basis;
