@@ -50,3 +50,9 @@ pub mod AmplitudeLaws
 pub mod AmplitudeParts
 -- amplitudes of the modes of an orbit
 pub mod OrbitAmplitudes
+-- modes of irreps that are apart
+pub mod ApartModes
+-- the form that the elements of a group keep, and projections by even weights
+pub mod InvariantFormLaws
+-- what modes of irreps that are apart obey
+pub mod ApartLaws

@@ -5,13 +5,15 @@ ghost use Rattle.lin_alg.specs.Spans.{row_vectors, IsInSpan, AreSame};
 ghost use Rattle.lin_alg.specs.Reduced.{IsWithin};
 ghost use Rattle.lin_alg.specs.Matrices.{apply};
 ghost use Rattle.lin_alg.specs.Solving.{AreIndependent, plain_rows};
-ghost use Rattle.super_group.specs.Quotient.{order_of};
+ghost use Rattle.super_group.specs.Quotient.{order_of, quotient_group};
+ghost use Rattle.char_orth.specs.Apart.{AreApart};
 ghost use Rattle.mode_project.specs.AtomSpace.{IsOrbit, matrix_of, displacements};
-ghost use Rattle.mode_project.specs.Projection.{projection, IsInSum};
+ghost use Rattle.mode_project.specs.Projection.{projection, IsInRange, IsInSum};
 ghost use Rattle.mode_project.specs.Modes.{AreModes, vector_at, before_irrep};
 ghost use Rattle.mode_project.specs.Wide.{IsWideModes};
 ghost use Rattle.mode_project.specs.Weights.{exact_weights, AreWeights};
 ghost use Rattle.mode_project.specs.ModesView.{irrep_modes_in, count_in, mode_in};
+ghost use Rattle.mode_project.specs.ApartModes.{of_irrep, MeetInZero, AreAllApart};
 ghost use Rattle.mode_project.specs.declared.errors.ModeError.TheVariants as mode_error;
 
 use crate::displaced::displacement_modes;
@@ -19,7 +21,7 @@ use crate::errors::FAMILY;
 use crate::laws::law_of_displacements;
 use crate::sites::free_columns;
 use crate::{ModeError, Modes, Weights};
-use cyclo24::K24;
+use cyclo24::{K24, law_of_squares};
 use lin_alg::LinError;
 use std::alloc::Global;
 use std::marker::Brand;
@@ -44,10 +46,13 @@ pub fn modes(
     ensures spanning { IfOk result (λ m. AreSame (IsInSpan k24_laws (plain_rows (mode_in m) (count_in m))) (IsWithin k24_laws (length orbit.now.places * 3))) }
     ensures sums { IfOk result (λ m. (j : ℕ) → j ≤ length weights.now → AreSame (IsInSpan k24_laws (row_vectors (before_irrep j (irrep_modes_in m)))) (IsInSum k24_laws (displacements quotient.now orbit.now) (take j (exact_weights weights.now)))) }
     ensures commutes { (j q : ℕ) → j < length weights.now → q < order_of quotient.now → (v : ℕ → Exact24) (i : ℕ) → i < length orbit.now.places * 3 → apply k24_laws (length orbit.now.places * 3) (projection k24_laws (displacements quotient.now orbit.now) (vector_at k24_laws (exact_weights weights.now) j)) (apply k24_laws (length orbit.now.places * 3) (matrix_of k24_laws (displacements quotient.now orbit.now) q) v) i ≡ apply k24_laws (length orbit.now.places * 3) (matrix_of k24_laws (displacements quotient.now orbit.now) q) (apply k24_laws (length orbit.now.places * 3) (projection k24_laws (displacements quotient.now orbit.now) (vector_at k24_laws (exact_weights weights.now) j)) v) i }
+    ensures meet { (j l : ℕ) → j < length weights.now → l < length weights.now → AreApart k24_laws (quotient_group quotient.now) (vector_at k24_laws (exact_weights weights.now) j) (vector_at k24_laws (exact_weights weights.now) l) → MeetInZero k24_laws (length orbit.now.places * 3) (projection k24_laws (displacements quotient.now orbit.now) (vector_at k24_laws (exact_weights weights.now) j)) (projection k24_laws (displacements quotient.now orbit.now) (vector_at k24_laws (exact_weights weights.now) l)) }
+    ensures own { IfOk result (λ m. AreAllApart k24_laws (quotient_group quotient.now) (exact_weights weights.now) → (j : ℕ) → j < length weights.now → AreSame (IsInSpan k24_laws (row_vectors (of_irrep j (irrep_modes_in m)))) (IsInRange k24_laws (length orbit.now.places * 3) (projection k24_laws (displacements quotient.now orbit.now) (vector_at k24_laws (exact_weights weights.now) j)))) }
     ensures wide { (f : ℕ) → (result ≡ Err (mode_error.Wide f)) → (f ≡ 5) × IsWideModes k24 (displacements quotient.now orbit.now) (exact_weights weights.now) }
 {
     let _order = quotient.order();
     law_of_displacements();
+    law_of_squares();
     match find_modes(alloc, quotient, orbit, weights) {
         Ok(found) => Ok(found),
         Err(error) => Err(error),
