@@ -1,0 +1,8 @@
+pub mod AlikeMatchLemmas
+pub mod HeldLemmas
+pub mod ListLemmas
+pub mod MatchCauseLemmas
+pub mod MatchShiftLemmas
+pub mod OneAmpsLemmas
+pub mod OneModesLemmas
+pub mod TextLemmas

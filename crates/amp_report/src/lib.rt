@@ -1,0 +1,14 @@
+//! What `amps` finds in a file, and its report.
+//!
+//! Conventions: an amplitude is the factor of a mode in the one sum that is the displacement of the
+//! atoms of an orbit, in cell edges; orbits and modes are numbered from 1 in the report.
+#![tactic(auto)]
+
+mod found;
+mod modes;
+mod orbit_text;
+mod report;
+mod rows;
+mod shifts;
+
+pub use found::{FoundAmplitudes, amps_found, amps_report};
