@@ -5,6 +5,7 @@
 #![tactic(auto)]
 
 mod found;
+mod laws;
 mod modes;
 mod orbit_text;
 mod report;
@@ -12,3 +13,4 @@ mod rows;
 mod shifts;
 
 pub use found::{FoundAmplitudes, amps_found, amps_report};
+pub use laws::law_of_amps_found;
