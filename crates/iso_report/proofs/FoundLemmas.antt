@@ -14,6 +14,7 @@ use Rattle.iso_report.specs.Jobs.{is_built}
 use Rattle.list_report.specs.Listings.{IsListFound}
 use Rattle.mode_report.specs.DirectionFound.{IsFoundAlong}
 use Rattle.mode_report.specs.ModesFound.{AreModesFound}
+use Rattle.amp_report.specs.AmpsFound.{AreAmpsFound}
 use Rattle.std.proofs.lemmas.Result.{IfOk-weaker}
 use Rattle.iso_report.specs.Found.{Finds, finding_of}
 use Rattle.report_steps.specs.Held.{IsInducedHeld, facts_in}
@@ -42,6 +43,10 @@ list-job-found j wanted after count tally d e b r h =
     let built = subst (λ (x : Job). is_built x ≡ true) e b in
     subst (λ (x : Job). IfOk r (Finds (IsFound x d))) (sym e)
     (IfOk-weaker r (Finds (IsListFound wanted after count d)) (Finds (IsFound (job.List wanted after count tally) d)) (λ st w. (list-job tally wanted after count d (finding_of st) built w.0, w.1)) h)
+
+-- amplitudes
+pub amps-found : {E : Type 0} (j : Job) (d : Divided) → j ≡ job.Amps → (r : Result (Step Found) E) → IfOk r (Finds (AreAmpsFound d)) → IfOk r (Finds (IsFound j d))
+amps-found j d e r h = subst (λ (x : Job). IfOk r (Finds (IsFound x d))) (sym e) h
 
 -- modes
 pub modes-found : {E : Type 0} (j : Job) (direction : Option (Option (List ℕ) × ℕ)) (d : Divided) → j ≡ job.Modes direction → (r : Result (Step Found) E)

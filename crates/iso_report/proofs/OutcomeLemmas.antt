@@ -1,6 +1,8 @@
 -- A file's bytes have one outcome.
-use Rattle.std.proofs.Common.{◌≡◌, ap, ◌∙◌, sym, subst, ℕ, List, Option, Some, None, true, false}
+use Rattle.std.proofs.Common.{◌≡◌, ap, ◌∙◌, sym, subst, ℕ, ℤ, pos, ◌≤ℤ◌, ◌<ℤ◌, List, Option, Some, None, IfSome, unwrap_or, true, false, arith}
+use Rattle.std.proofs.lemmas.Int.{ints}
 use Rattle.iso_text.specs.FileValue.{File}
+use Rattle.iso_text.specs.Ranges.{IsInRange}
 use Rattle.iso_text.specs.declared.sections.IrrepText.{IrrepText}
 use Rattle.super_group.specs.Quotient.{SupercellGroup, IsQuotient}
 use Rattle.iso_report.specs.declared.job.Job.{Job}
@@ -17,7 +19,19 @@ use Rattle.report_steps.specs.Steps.{never}
 use Rattle.list_report.specs.Listings.{IsListFound}
 use Rattle.mode_report.specs.Atoms.{RefusesAtoms}
 use Rattle.mode_report.specs.DirectionFound.{IsFoundAlong}
+use Rattle.amp_report.specs.AmpsFound.{AreAmpsFound}
 use Rattle.mode_report.specs.ModesFound.{AreWideAll, AreToldOf, IsReported, AreModesFound}
+
+-- the tolerance of a file is below a quarter of a cell edge
+abbrev pub HasSmallTolerance : File → Type 0
+HasSmallTolerance f = unwrap_or f.tolerance (pos 0) <ℤ pos 3000000
+
+small-option : (t : Option ℤ) → IfSome t (λ x. (pos 0 ≤ℤ x) × (x ≤ℤ pos 2999999)) → unwrap_or t (pos 0) <ℤ pos 3000000
+small-option None h = omega (arith, ints)
+small-option (Some x) h = omega (arith, ints, h.1)
+
+pub small-tolerance : (f : File) → IsInRange f → HasSmallTolerance f
+small-tolerance f h = small-option f.tolerance h.tolerance
 
 -- what is known of each step, and of what is found behind them
 pub record AreSettled : Type 0 where
@@ -31,9 +45,11 @@ pub record AreSettled : Type 0 where
   pub list : (d : Divided) → IsQuotient d.quotient → (wanted : Option (List ℕ)) (after : ℕ) (count : Option ℕ) → FindsOneAt (IsListFound wanted after count) d
   pub modes : (d : Divided) → IsQuotient d.quotient → IsSingleAt RefusesAtoms AreToldOf d
   pub along : (d : Divided) → IsQuotient d.quotient → (wanted : Option (List ℕ)) (number : ℕ) → FindsOneAt (IsFoundAlong wanted number) d
+  pub tolerance : (bytes : List ℕ) (file : File) → IsRead bytes file → HasSmallTolerance file
+  pub amps : (d : Divided) → IsQuotient d.quotient → HasSmallTolerance d.file → FindsOneAt AreAmpsFound d
 
 module _ (s : AreSettled) (j : Job) where
-  module _ (d : Divided) (h : IsQuotient d.quotient) where
+  module _ (d : Divided) (h : IsQuotient d.quotient) (small : HasSmallTolerance d.file) where
     checked-one : FindsOneAt IsChecked d
     checked-one f g (facts, a, e) (other, b, k) u v = e ∙ ap (λ (fs : List Facts). report (check_text d fs)) (s.facts d.quotient h d.file.irreps facts other a b) ∙ sym k
 
@@ -46,7 +62,7 @@ module _ (s : AreSettled) (j : Job) where
     job-found (job.List wanted after count true) f g a b u v = absurd a
     job-found (job.Modes None) f g a b u v = modes-one f g a b u v
     job-found (job.Modes (Some (wanted, number))) f g a b u v = s.along d h wanted number f g a b u v
-    job-found job.Amps f g a b u v = absurd a
+    job-found job.Amps f g a b u v = s.amps d h small f g a b u v
     job-found (job.Demo number) f g a b u v = absurd a
 
     induced-found : FindsOneAt (AfterReps j) d
@@ -59,16 +75,20 @@ module _ (s : AreSettled) (j : Job) where
         After-single-at RefusesReps AreWideReps HaveReps (AfterReps j) d (s.reps d h)
         (λ e w. let P : Divided → Type 0 = FindsOneAt (AfterReps j) in subst P (sym w.1) induced-found)
 
-  order-found : (p : Parented) → FindsOneAt (AfterPhases j) p
-  order-found p = After-single-at RefusesOrder never IsDivided (AfterOrder j) p (single-at RefusesOrder IsDivided s.order p) (λ d w. reps-found d w.quotient)
+  order-found : (p : Parented) → HasSmallTolerance p.file → FindsOneAt (AfterPhases j) p
+  order-found p small =
+      After-single-at RefusesOrder never IsDivided (AfterOrder j) p (single-at RefusesOrder IsDivided s.order p)
+      (λ d w. reps-found d w.quotient (subst HasSmallTolerance (sym w.file_is) small))
 
-  phases-found : (p : Parented) → FindsOneAt (AfterParent j) p
-  phases-found p =
+  phases-found : (p : Parented) → HasSmallTolerance p.file → FindsOneAt (AfterParent j) p
+  phases-found p small =
       After-single-at RefusesPhases never HavePhases (AfterPhases j) p (s.phases p)
-      (λ q w. let P : Parented → Type 0 = FindsOneAt (AfterPhases j) in subst P (sym w.1) (order-found p))
+      (λ q w. let P : Parented → Type 0 = FindsOneAt (AfterPhases j) in subst P (sym w.1) (order-found p small))
 
-  parent-found : (file : File) → FindsOneAt (AfterText j) file
-  parent-found file = After-single-at RefusesParent never IsParented (AfterParent j) file (single-at RefusesParent IsParented s.parent file) (λ p w. phases-found p)
+  parent-found : (file : File) → HasSmallTolerance file → FindsOneAt (AfterText j) file
+  parent-found file small =
+      After-single-at RefusesParent never IsParented (AfterParent j) file (single-at RefusesParent IsParented s.parent file)
+      (λ p w. phases-found p (subst HasSmallTolerance (sym w.4) small))
 
   pub outcome-one : HasOneOutcome j
-  outcome-one bytes = After-single-at RefusesText never IsRead (AfterText j) bytes (single-at RefusesText IsRead s.text bytes) (λ file w. parent-found file)
+  outcome-one bytes = After-single-at RefusesText never IsRead (AfterText j) bytes (single-at RefusesText IsRead s.text bytes) (λ file w. parent-found file (s.tolerance bytes file w))

@@ -5,10 +5,10 @@ use Rattle.std.specs.Prelude.{Bool, true, false, not}
 use Rattle.iso_report.specs.declared.job.Job.{Job}
 use Rattle.iso_report.specs.declared.job.Job.TheVariants as job
 
--- `check`, `list` without a tally, and `modes`
+-- `check`, `list` without a tally, `modes` and `amps`
 abbrev pub is_built : Job → Bool
 is_built job.Check = true
 is_built (job.List irrep after count tally) = not tally
 is_built (job.Modes direction) = true
-is_built job.Amps = false
+is_built job.Amps = true
 is_built (job.Demo number) = false

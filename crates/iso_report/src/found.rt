@@ -6,8 +6,10 @@ ghost use Rattle.report_steps.specs.HeldFiles.{AreInducedHeld};
 ghost use Rattle.list_report.specs.Listings.{IsListFound};
 ghost use Rattle.mode_report.specs.DirectionFound.{IsFoundAlong};
 ghost use Rattle.mode_report.specs.ModesFound.{AreModesFound};
+ghost use Rattle.amp_report.specs.AmpsFound.{AreAmpsFound};
 
 use crate::check::check_report;
+use amp_report::{FoundAmplitudes, amps_found, amps_report};
 use iso_text::{Name, NoMemory, Text};
 use list_report::{ListedIrrep, list_found, listed_text};
 use mode_report::{FoundModes, ModesAlong, along_report, modes_along, modes_found, modes_text_of};
@@ -25,6 +27,8 @@ pub enum Found {
     Modes(InducedFile, FoundModes),
     /// Those that a direction allows.
     Along(ModesAlong),
+    /// The amplitudes of the modes of the orbits.
+    Amplitudes(FoundAmplitudes),
 }
 
 /// The listing of the irrep of a name, or of the first of the file where none is named; or why there
@@ -75,6 +79,18 @@ pub fn found_along(
     }
 }
 
+/// The amplitudes of the modes in the listed structure, or why there are none.
+pub fn found_amplitudes(alloc: Global, file: InducedFile) -> Result<Step<Found>, NoMemory>
+    requires held { AreInducedHeld file }
+    requires ranged { IsInRange file.divided.file }
+    ensures { IfOk result (Finds (AreAmpsFound file.divided)) }
+{
+    match amps_found(alloc, file)? {
+        Step::Passed(amplitudes) => Ok(Step::Passed(Found::Amplitudes(amplitudes))),
+        Step::Refused(refusal) => Ok(Step::Refused(refusal)),
+    }
+}
+
 /// The bytes of the report.
 pub fn report_text(alloc: Global, found: &Found) -> Result<Text, NoMemory>
     requires { IsFoundHeld found.now }
@@ -85,5 +101,6 @@ pub fn report_text(alloc: Global, found: &Found) -> Result<Text, NoMemory>
         Found::Listed(listed) => listed_text(alloc, listed),
         Found::Modes(file, modes) => modes_text_of(alloc, file, modes),
         Found::Along(along) => along_report(alloc, along),
+        Found::Amplitudes(amplitudes) => amps_report(alloc, amplitudes),
     }
 }

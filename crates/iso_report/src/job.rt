@@ -32,7 +32,7 @@ pub enum Job {
 }
 
 impl Job {
-    /// Whether the job is built so far: `check`, `list` without a tally, and `modes`.
+    /// Whether the job is built so far: `check`, `list` without a tally, `modes` and `amps`.
     pub fn is_built(&self) -> bool
         ensures value { result ≡ is_built self.now }
     {
@@ -40,7 +40,7 @@ impl Job {
             Job::Check => true,
             Job::List { tally, .. } => !tally,
             Job::Modes { .. } => true,
-            Job::Amps => false,
+            Job::Amps => true,
             Job::Demo { .. } => false,
         }
     }

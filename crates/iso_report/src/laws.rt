@@ -2,6 +2,8 @@
 ghost use Rattle.iso_report.specs.OutcomeLaws.{HasOneOutcome};
 
 use crate::job::Job;
+use amp_report::law_of_amps_found;
+use iso_text::law_of_ranges;
 use list_report::law_of_list;
 use mode_report::{law_of_modes_along, law_of_modes_found};
 use report_steps::{law_of_irreps, law_of_steps};
@@ -10,9 +12,11 @@ use report_steps::{law_of_irreps, law_of_steps};
 pub fn law_of_outcomes()
     ensures { (job : Job) → HasOneOutcome job }
 {
+    law_of_ranges();
     law_of_steps();
     law_of_irreps();
     law_of_list();
     law_of_modes_found();
     law_of_modes_along();
+    law_of_amps_found();
 }

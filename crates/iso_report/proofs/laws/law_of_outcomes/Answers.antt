@@ -1,4 +1,5 @@
-use Rattle.iso_report.proofs.OutcomeLemmas.{outcome-one}
+use Rattle.iso_text.specs.Lines.{lines_of}
+use Rattle.iso_report.proofs.OutcomeLemmas.{outcome-one, small-tolerance}
 use Rattle.iso_report.proofs.laws.law_of_outcomes.Goals as goal
 
 pub returns : goal.returns
@@ -16,4 +17,6 @@ returns c =
       list = c.law_of_list.ensures;
       modes = c.law_of_modes_found.ensures;
       along = c.law_of_modes_along.ensures;
+      tolerance = λ bytes file h. small-tolerance file (c.law_of_ranges.ensures.files (lines_of bytes) file h);
+      amps = c.law_of_amps_found.ensures;
     })

@@ -1,4 +1,4 @@
-use Rattle.iso_report.proofs.FoundLemmas.{checked-found, list-job-found, modes-found}
+use Rattle.iso_report.proofs.FoundLemmas.{checked-found, list-job-found, modes-found, amps-found}
 use Rattle.iso_report.proofs.outcome.after_induced.Goals as goal
 
 pub returns-in-Check : goal.returns-in-Check
@@ -11,3 +11,6 @@ returns-in-List c =
 
 pub returns-in-Modes : goal.returns-in-Modes
 returns-in-Modes c = modes-found c.args.job.now c.in-Modes.direction c.args.file.divided c.in-Modes.is c.after_modes.result c.after_modes.ensures
+
+pub returns-in-Amps : goal.returns-in-Amps
+returns-in-Amps c = amps-found c.args.job.now c.args.file.divided c.in-Amps.is c.found_amplitudes.result c.found_amplitudes.ensures
