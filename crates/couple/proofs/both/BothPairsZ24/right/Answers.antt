@@ -1,0 +1,8 @@
+use Rattle.std.proofs.Common.{sym, ◌∙◌}
+use Rattle.cyclo24.specs.ExactZ24.{z24}
+use Rattle.induce.specs.Tables.{matrix_in}
+use Rattle.couple.specs.Listed.{lift-list}
+use Rattle.couple.proofs.both.BothPairsZ24.right.Goals as goal
+
+pub returns : goal.returns
+returns c = c.entry.ensures ∙ sym (lift-list z24 (matrix_in c.args.self.now.quotient.now c.args.self.now.right.now.tables c.args.q c.args.j c.args.b))

@@ -1,0 +1,10 @@
+use Rattle.lin_alg.specs.Matrix.{entry}
+use Rattle.lin_alg.specs.Rows.{vector}
+use Rattle.couple.proofs.WriteLemmas.{IsWritten}
+use Rattle.couple.proofs.rank.fill_row.Given as goal
+
+abbrev pub invariant-loop-j : goal.invariant-loop-j
+invariant-loop-j g l =
+    let f = g.F.Field.field in
+    let v = g.F.Field.value in
+    IsWritten f v (entry f.laws v l.rows l.i) (vector f.laws v l.fn.row) l.row l.j
