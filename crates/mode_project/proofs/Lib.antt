@@ -6,6 +6,11 @@ mod ColumnLemmas
 mod ImageLemmas
 mod VectorsLemmas
 mod RangeLemmas
+mod ScaleLemmas
+mod ScaledLemmas
+mod InsideLemmas
+mod QuickLemmas
+mod FreeLemmas
 mod JointLemmas
 mod FoundLemmas
 mod SiteLemmas

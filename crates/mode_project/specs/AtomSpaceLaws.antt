@@ -65,7 +65,7 @@ module _ {K : Type 0} (f : FieldOn K) where
         ∙ of-total c (λ z. s.turn a (p % c) z *ℤ s.turn b z (q % c))
         ∙ total-same f c _ _ (λ z l. of-times f (s.turn a (p % c) z) (s.turn b z (q % c)))))
 
-    unit-number : (b : Bool) → of_whole f (if b then pos 1 else pos 0) ≡ (if b then f.unit else f.nought)
+    pub unit-number : (b : Bool) → of_whole f (if b then pos 1 else pos 0) ≡ (if b then f.unit else f.nought)
     unit-number true = f.plus-nought f.unit
     unit-number false = refl
 

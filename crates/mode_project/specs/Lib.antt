@@ -34,6 +34,8 @@ pub mod ModesView
 pub mod Turns
 -- what the parts of the code of modes give
 pub mod Parts
+-- weights whose projection is idempotent but for a factor, and the rank that its trace tells
+pub mod Scaled
 -- modes as the code holds them, with the reduced form of their span
 pub mod Joined
 -- where the parts of the code of modes are wide

@@ -26,7 +26,7 @@ use Rattle.mode_project.specs.AtomSpaceLaws.{matrices-multiply, matrix-unit, ent
 use Rattle.mode_project.specs.Projection.{projection, IsInRange, cut, column_of}
 
 -- q goes to p q p^-1
-by-conjugation : (g : Group) (h : IsGroup g) (p : ℕ) → p < g.order → IsRenumbering g.order (λ q. g.product (g.product p q) (g.inverse p)) (λ q. g.product (g.product (g.inverse p) q) p)
+pub by-conjugation : (g : Group) (h : IsGroup g) (p : ℕ) → p < g.order → IsRenumbering g.order (λ q. g.product (g.product p q) (g.inverse p)) (λ q. g.product (g.product (g.inverse p) q) p)
 by-conjugation g h p lp =
     let s = g.inverse p in
     let ls = h.inverse_below p lp in
@@ -80,7 +80,7 @@ module _ {K : Type 0} (f : FieldOn K) where
         ∙ ap (f.times (w q)) (sym (r q p lq lp i j li lj)))
 
     -- M(p) P = sum of w(q) M(p q)
-    left-product : (w : ℕ → K) (p : ℕ) → p < g.order → (i j : ℕ) → i < d → j < d
+    pub left-product : (w : ℕ → K) (p : ℕ) → p < g.order → (i j : ℕ) → i < d → j < d
         → mul f d (m p) (weighted f g.order w m) i j ≡ total f g.order (λ q. f.times (w q) (m (g.product p q) i j))
     left-product w p lp i j li lj =
         total-same f d _ _ (λ k l. sym (total-times f g.order (m p i k) (λ q. f.times (w q) (m q k j))))
@@ -179,7 +179,7 @@ module _ {K : Type 0} (f : FieldOn K) where
       );
     }
 
-    column-in-range : (k : ℕ) → k < d → IsInRange f d a (column_of f d a k)
+    pub column-in-range : (k : ℕ) → k < d → IsInRange f d a (column_of f d a k)
     column-in-range k l = (column-past k, (unit_vector f k, λ i m. column-inside k i m ∙ sym (dot-unit f d (a i) k l)))
 
     -- a combination of the first rows is in their span

@@ -87,7 +87,7 @@ fn write_atom<S: OfSpace, F: Field>(
 }
 
 // Writes M(q) row, atom by atom, in the place of zeros.
-fn fill_image<S: OfSpace, F: Field>(
+pub(crate) fn fill_image<S: OfSpace, F: Field>(
     image: &mut [F],
     orbit: &Orbit,
     turns: &Turns,

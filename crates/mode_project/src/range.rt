@@ -15,6 +15,7 @@ ghost use Rattle.mode_project.specs.WideParts.{IsWideSpread};
 use crate::column::projected_column;
 use crate::image::{fill_turned, moved_rows};
 use crate::insertion::insert;
+use crate::quick::quick_form;
 use crate::space::OfSpace;
 use crate::turns::Turns;
 use cyclo24::Field;
@@ -198,6 +199,10 @@ pub(crate) fn range_form<S: OfSpace, F: Field>(
         Ok(columns) => columns,
         Err(error) => return Err(error),
     };
+    match quick_form::<S, F>(alloc, orbit, turns, ways, weights, &columns) {
+        Some(form) => return Ok(form),
+        None => {}
+    }
     match spread_form::<S, F>(alloc, orbit, turns, ways, &columns) {
         Ok(form) => Ok(form),
         Err(error) => Err(error),

@@ -1,0 +1,10 @@
+use Rattle.mode_project.specs.AtomSpace.{size_of}
+use Rattle.mode_project.specs.Parts.{rows_in, row_in}
+use Rattle.mode_project.specs.Scaled.{IsInImages, IsInside}
+use Rattle.mode_project.proofs.quick.insert_images.Given as goal
+
+abbrev pub invariant-loop-b : goal.invariant-loop-b
+invariant-loop-b g l =
+    let f = g.F.Field.field.laws in
+    let s = g.S.OfSpace.space in
+    IsInside f g.F.Field.value (size_of s) (IsInImages f s (row_in f g.F.Field.value (rows_in l.columns))) l.form
