@@ -1,0 +1,4 @@
+pub mod AnswerLemmas
+pub mod OneWeightLemmas
+pub mod PairLemmas
+pub mod TextLemmas

@@ -1,0 +1,43 @@
+// What `apart` finds in a file.
+ghost use Rattle.std.specs.Prelude.{◌≡◌, IfOk};
+ghost use Rattle.report_steps.specs.FoundBy.{FindsBy};
+ghost use Rattle.report_steps.specs.HeldFiles.{AreInducedHeld};
+ghost use Rattle.apart_report.specs.ApartFound.{AreApartFound};
+ghost use Rattle.apart_report.specs.FoundPairs.{ArePairsHeld, apart_of};
+
+use crate::answers::all_answers;
+use crate::pairs::pairs_below;
+use crate::report::report_of;
+use iso_text::{NoMemory, Text};
+use report_steps::{InducedFile, Step};
+use std::alloc::Global;
+
+/// A file, and for each pair of its irreps whether they are apart: the earlier one first, by the first
+/// and then the second.
+#[derive(Drop)]
+pub struct FoundPairs {
+    pub file: InducedFile,
+    pub answers: Vec<bool>,
+}
+
+/// Whether the irreps of each pair of a file are apart; or that a number is too wide. Condition: what
+/// the file holds is what its irreps induce. Errors: want of memory.
+pub fn apart_found(alloc: Global, file: InducedFile) -> Result<Step<FoundPairs>, NoMemory>
+    requires { AreInducedHeld file }
+    ensures { IfOk result (FindsBy apart_of ArePairsHeld (AreApartFound file.divided)) }
+{
+    let pairs = pairs_below(alloc, file.irreps.len())?;
+    match all_answers(alloc, &file, &pairs)? {
+        Step::Passed(answers) => Ok(Step::Passed(FoundPairs { file, answers })),
+        Step::Refused(refusal) => Ok(Step::Refused(refusal)),
+    }
+}
+
+/// The report of pairs. Condition: there is an answer for each pair. Errors: want of memory.
+pub fn apart_report(alloc: Global, found: &FoundPairs) -> Result<Text, NoMemory>
+    requires { ArePairsHeld found.now }
+    ensures { IfOk result (λ text. text ≡ apart_of found.now) }
+{
+    let document = found.file.divided.document();
+    report_of(alloc, document.format(), document.irreps(), &found.answers)
+}
