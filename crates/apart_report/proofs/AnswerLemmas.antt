@@ -12,7 +12,7 @@ use Rattle.super_group.specs.Quotient.{SupercellGroup, quotient_group}
 use Rattle.induce.specs.Induced.{weight_at}
 use Rattle.induce.specs.InducedView.{InducedView, star_in, IsInducedOf}
 use Rattle.induce.specs.Tables.{matrices_in}
-use Rattle.char_orth.specs.Apart.{AreApart, weights_by}
+use Rattle.induce.specs.Apart.{AreApart, weights_by}
 use Rattle.char_orth.specs.Wide.{IsWideApart}
 use Rattle.report_steps.specs.Contexts.{Divided}
 use Rattle.report_steps.specs.EachLaws.{each-map, each-length}

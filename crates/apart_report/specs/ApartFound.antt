@@ -8,7 +8,7 @@ use Rattle.std.specs.Prelude.{◌≡◌, ◌↔◌, ℕ, true, List, [], ◌∷�
 use Rattle.cyclo24.specs.ExactK24.{Exact24, k24, k24_laws}
 use Rattle.iso_text.specs.declared.sections.IrrepText.{IrrepText}
 use Rattle.super_group.specs.Quotient.{SupercellGroup, quotient_group}
-use Rattle.char_orth.specs.Apart.{AreApart}
+use Rattle.induce.specs.Apart.{AreApart}
 use Rattle.char_orth.specs.Wide.{IsWideApart}
 use Rattle.report_steps.specs.Contexts.{Divided}
 use Rattle.report_steps.specs.Finding.{Finding, report}

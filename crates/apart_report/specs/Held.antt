@@ -11,7 +11,7 @@ use Rattle.std.specs.List.{range_with_len}
 use Rattle.cyclo24.specs.ExactK24.{Exact24, k24, k24_laws}
 use Rattle.iso_text.specs.declared.sections.IrrepText.{IrrepText}
 use Rattle.super_group.specs.Quotient.{SupercellGroup, quotient_group}
-use Rattle.char_orth.specs.Apart.{AreApart, weights_by}
+use Rattle.induce.specs.Apart.{AreApart, weights_by}
 use Rattle.char_orth.specs.Wide.{IsWideApart}
 use Rattle.report_steps.specs.declared.context.InducedFile.{InducedFile}
 use Rattle.mode_report.specs.AllModes.{name_at}

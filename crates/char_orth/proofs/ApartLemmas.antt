@@ -8,7 +8,7 @@ use Rattle.cyclo24.specs.Sums.{total}
 use Rattle.lin_alg.specs.Matrices.{convolution}
 use Rattle.lin_alg.specs.Matrix.{IsWideTerm, IsWideDot}
 use Rattle.lin_alg.specs.Rows.{vector}
-use Rattle.char_orth.specs.Apart.{IsEven, AreApart}
+use Rattle.induce.specs.Apart.{IsEven, AreApart}
 use Rattle.char_orth.specs.Wide.{IsWideApart}
 
 pub on-err : {A E : Type 0} (r : Result A E) (P : Type 0) → P → OnErr r P

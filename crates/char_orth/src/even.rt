@@ -2,7 +2,7 @@
 ghost use Rattle.std.specs.Prelude.{◌≡◌, ◌<◌, true, false, length};
 ghost use Rattle.lin_alg.specs.Rows.{vector};
 ghost use Rattle.super_group.specs.Quotient.{order_of, quotient_group};
-ghost use Rattle.char_orth.specs.Apart.{IsEven};
+ghost use Rattle.induce.specs.Apart.{IsEven};
 
 use cyclo24::Field;
 use lin_alg::are_equal;

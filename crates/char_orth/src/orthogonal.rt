@@ -3,7 +3,7 @@ ghost use Rattle.std.specs.Prelude.{◌≡◌, ◌↔◌, true, IfOk, OnErr};
 ghost use Rattle.cyclo24.specs.ExactK24.{k24, k24_laws};
 ghost use Rattle.super_group.specs.Quotient.{quotient_group};
 ghost use Rattle.induce.specs.InducedView.{IsInducedOf};
-ghost use Rattle.char_orth.specs.Apart.{AreApart, weights_by};
+ghost use Rattle.induce.specs.Apart.{AreApart, weights_by};
 ghost use Rattle.char_orth.specs.Wide.{IsWideApart};
 
 use crate::even::is_even;

@@ -16,6 +16,8 @@ pub mod Weights
 pub mod Wide
 -- induced matrices as contracts see them
 pub mod InducedView
+-- weights that are apart
+pub mod Apart
 pub mod InsideView
 -- phases of the translations of a supercell
 pub mod CellPhaseLaws

@@ -12,7 +12,7 @@ use Rattle.lin_alg.specs.EquationLaws.{dec, eq-self, eq-other}
 use Rattle.lin_alg.specs.InsertLaws.{span-least, span-rows, rows-mono, has_less}
 use Rattle.lin_alg.specs.SpanLaws.{funext}
 use Rattle.lin_alg.specs.Spans.{row_vectors, less, IsInSpan, IsSubspace, HasRows, AreSame}
-use Rattle.char_orth.specs.Apart.{AreApart}
+use Rattle.induce.specs.Apart.{AreApart}
 use Rattle.mode_project.specs.AtomSpace.{AtomSpace, size_of, matrix_of, IsAtomSpace}
 use Rattle.mode_project.specs.AtomSpaceLaws.{matrices-multiply, matrix-unit}
 use Rattle.mode_project.specs.ApartModes.{of_irrep, MeetInZero, AreAllApart}

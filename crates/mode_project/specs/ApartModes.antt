@@ -6,7 +6,7 @@
 use Rattle.std.specs.Prelude.{◌≡◌, ℕ, ◌<◌, List, [], ◌∷◌, length, nat_eq, if◌then◌else◌}
 use Rattle.algebra.specs.NumberedGroup.{Group}
 use Rattle.cyclo24.specs.FieldOn.{FieldOn}
-use Rattle.char_orth.specs.Apart.{AreApart}
+use Rattle.induce.specs.Apart.{AreApart}
 use Rattle.mode_project.specs.Projection.{IsInRange}
 use Rattle.mode_project.specs.Modes.{vector_at}
 

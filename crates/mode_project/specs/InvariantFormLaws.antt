@@ -17,7 +17,7 @@ use Rattle.cyclo24.specs.SumLaws.{all-nought, one-term, total-rows, renumbered}
 use Rattle.cyclo24.specs.TotalLaws.{total-same, total-plus, total-times, times-total, total-swap}
 use Rattle.lin_alg.specs.EquationLaws.{eq-self, eq-other}
 use Rattle.lin_alg.specs.Matrices.{apply, weighted, convolution, unit_entry, AreEqualBelow, IsRepresentation}
-use Rattle.char_orth.specs.Apart.{IsEven}
+use Rattle.induce.specs.Apart.{IsEven}
 use Rattle.mode_project.specs.AtomSpaceLaws.{row-at, number-at, column-below}
 use Rattle.mode_project.specs.ProjectionLaws.{apply-product}
 

@@ -6,7 +6,7 @@ ghost use Rattle.lin_alg.specs.Reduced.{IsWithin};
 ghost use Rattle.lin_alg.specs.Matrices.{apply};
 ghost use Rattle.lin_alg.specs.Solving.{AreIndependent, plain_rows};
 ghost use Rattle.super_group.specs.Quotient.{order_of, quotient_group};
-ghost use Rattle.char_orth.specs.Apart.{AreApart};
+ghost use Rattle.induce.specs.Apart.{AreApart};
 ghost use Rattle.mode_project.specs.AtomSpace.{IsOrbit, matrix_of, displacements};
 ghost use Rattle.mode_project.specs.Projection.{projection, IsInRange, IsInSum};
 ghost use Rattle.mode_project.specs.Modes.{AreModes, vector_at, before_irrep};

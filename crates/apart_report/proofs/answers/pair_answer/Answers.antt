@@ -1,5 +1,5 @@
 use Rattle.std.proofs.Common.{refl, inr}
-use Rattle.char_orth.specs.Apart.{weights_by}
+use Rattle.induce.specs.Apart.{weights_by}
 use Rattle.apart_report.specs.Held.{held_weights}
 use Rattle.apart_report.proofs.AnswerLemmas.{induced-at, weights-found, answer-is, wide-is}
 use Rattle.apart_report.proofs.answers.pair_answer.Goals as goal

@@ -1,5 +1,5 @@
 use Rattle.std.proofs.Common.{◌≡◌, ◌∙◌, ℕ, List, Bool, inr, refl, sym, subst, length, map, arith}
-use Rattle.char_orth.specs.Apart.{weights_by}
+use Rattle.induce.specs.Apart.{weights_by}
 use Rattle.report_steps.specs.EachLaws.{each-length}
 use Rattle.report_steps.specs.FindingLaws.{found-wide}
 use Rattle.report_steps.specs.Held.{IsInducedHeld}
