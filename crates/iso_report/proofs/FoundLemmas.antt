@@ -15,6 +15,8 @@ use Rattle.list_report.specs.Listings.{IsListFound}
 use Rattle.mode_report.specs.DirectionFound.{IsFoundAlong}
 use Rattle.mode_report.specs.ModesFound.{AreModesFound}
 use Rattle.amp_report.specs.AmpsFound.{AreAmpsFound}
+use Rattle.couple_report.specs.CoupleFound.{IsCoupleFound}
+use Rattle.couple_report.specs.LinkFound.{IsLinkFound}
 use Rattle.std.proofs.lemmas.Result.{IfOk-weaker}
 use Rattle.iso_report.specs.Found.{Finds, finding_of}
 use Rattle.report_steps.specs.Held.{IsInducedHeld, facts_in}
@@ -47,6 +49,16 @@ list-job-found j wanted after count tally d e b r h =
 -- amplitudes
 pub amps-found : {E : Type 0} (j : Job) (d : Divided) → j ≡ job.Amps → (r : Result (Step Found) E) → IfOk r (Finds (AreAmpsFound d)) → IfOk r (Finds (IsFound j d))
 amps-found j d e r h = subst (λ (x : Job). IfOk r (Finds (IsFound x d))) (sym e) h
+
+-- the directions of two irreps together
+pub couple-found : {E : Type 0} (j : Job) (wanted : Option (List ℕ)) (other : List ℕ) (after : ℕ) (count : Option ℕ) (d : Divided) → j ≡ job.Couple wanted other after count → (r : Result (Step Found) E)
+    → IfOk r (Finds (IsCoupleFound wanted other after count d)) → IfOk r (Finds (IsFound j d))
+couple-found j wanted other after count d e r h = subst (λ (x : Job). IfOk r (Finds (IsFound x d))) (sym e) h
+
+-- the link between two irreps
+pub link-found : {E : Type 0} (j : Job) (wanted : Option (List ℕ)) (other : List ℕ) (d : Divided) → j ≡ job.Link wanted other → (r : Result (Step Found) E)
+    → IfOk r (Finds (IsLinkFound wanted other d)) → IfOk r (Finds (IsFound j d))
+link-found j wanted other d e r h = subst (λ (x : Job). IfOk r (Finds (IsFound x d))) (sym e) h
 
 -- modes
 pub modes-found : {E : Type 0} (j : Job) (direction : Option (Option (List ℕ) × ℕ)) (d : Divided) → j ≡ job.Modes direction → (r : Result (Step Found) E)

@@ -18,6 +18,8 @@ use Rattle.list_report.specs.FoundListing.{listed_text}
 use Rattle.list_report.specs.HeldListings.{IsListingHeld}
 use Rattle.mode_report.specs.FoundAlong.{IsAlongHeld, along_text}
 use Rattle.amp_report.specs.FoundAmps.{AreAmpsHeld, amps_of}
+use Rattle.couple_report.specs.FoundCouple.{IsCoupleHeld, couple_of}
+use Rattle.couple_report.specs.FoundLink.{IsLinkHeld, link_of}
 use Rattle.mode_report.specs.Held.{HasSizeOf, told_in}
 use Rattle.mode_report.specs.ModesReport.{modes_text}
 
@@ -28,6 +30,8 @@ text_of (found.Listed l) = listed_text l
 text_of (found.Modes f m) = modes_text f.divided.file.format (told_in f.divided.file.irreps m.orbits m.modes.items)
 text_of (found.Along m) = along_text m
 text_of (found.Amplitudes a) = amps_of a
+text_of (found.Coupled x) = couple_of x
+text_of (found.Linked x) = link_of x
 
 abbrev pub finding_of : Step Found → Finding
 finding_of = finding_by text_of
@@ -39,6 +43,8 @@ IsFoundHeld (found.Listed l) = IsListingHeld l
 IsFoundHeld (found.Modes f m) = Each HasSizeOf m.orbits m.modes.items
 IsFoundHeld (found.Along m) = IsAlongHeld m
 IsFoundHeld (found.Amplitudes a) = AreAmpsHeld a
+IsFoundHeld (found.Coupled x) = IsCoupleHeld x
+IsFoundHeld (found.Linked x) = IsLinkHeld x
 
 -- the finding is one of next, and what passed is held
 abbrev pub Finds : (Finding → Type 0) → Step Found → Type 0

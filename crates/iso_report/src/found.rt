@@ -7,9 +7,12 @@ ghost use Rattle.list_report.specs.Listings.{IsListFound};
 ghost use Rattle.mode_report.specs.DirectionFound.{IsFoundAlong};
 ghost use Rattle.mode_report.specs.ModesFound.{AreModesFound};
 ghost use Rattle.amp_report.specs.AmpsFound.{AreAmpsFound};
+ghost use Rattle.couple_report.specs.CoupleFound.{IsCoupleFound};
+ghost use Rattle.couple_report.specs.LinkFound.{IsLinkFound};
 
 use crate::check::check_report;
 use amp_report::{FoundAmplitudes, amps_found, amps_report};
+use couple_report::{FoundCouple, FoundLink, couple_found, couple_report, link_found, link_report};
 use iso_text::{Name, NoMemory, Text};
 use list_report::{ListedIrrep, list_found, listed_text};
 use mode_report::{FoundModes, ModesAlong, along_report, modes_along, modes_found, modes_text_of};
@@ -29,6 +32,10 @@ pub enum Found {
     Along(ModesAlong),
     /// The amplitudes of the modes of the orbits.
     Amplitudes(FoundAmplitudes),
+    /// The directions of two irreps together.
+    Coupled(FoundCouple),
+    /// The link between two irreps, or that there is none.
+    Linked(FoundLink),
 }
 
 /// The listing of the irrep of a name, or of the first of the file where none is named; or why there
@@ -91,6 +98,42 @@ pub fn found_amplitudes(alloc: Global, file: InducedFile) -> Result<Step<Found>,
     }
 }
 
+/// The listing of two irreps together, the first by its name or the first of the file; or why there is
+/// none.
+pub fn found_couple(
+    alloc: Global,
+    file: InducedFile,
+    wanted: Option<Name>,
+    other: Name,
+    after: u64,
+    count: Option<u64>,
+) -> Result<Step<Found>, NoMemory>
+    requires { AreInducedHeld file }
+    ensures { IfOk result (Finds (IsCoupleFound wanted other after count file.divided)) }
+{
+    match couple_found(alloc, file, wanted, other, after, count)? {
+        Step::Passed(coupled) => Ok(Step::Passed(Found::Coupled(coupled))),
+        Step::Refused(refusal) => Ok(Step::Refused(refusal)),
+    }
+}
+
+/// The link between two irreps, the first by its name or the first of the file; or why none was looked
+/// for.
+pub fn found_link(
+    alloc: Global,
+    file: InducedFile,
+    wanted: Option<Name>,
+    other: Name,
+) -> Result<Step<Found>, NoMemory>
+    requires { AreInducedHeld file }
+    ensures { IfOk result (Finds (IsLinkFound wanted other file.divided)) }
+{
+    match link_found(alloc, file, wanted, other)? {
+        Step::Passed(linked) => Ok(Step::Passed(Found::Linked(linked))),
+        Step::Refused(refusal) => Ok(Step::Refused(refusal)),
+    }
+}
+
 /// The bytes of the report.
 pub fn report_text(alloc: Global, found: &Found) -> Result<Text, NoMemory>
     requires { IsFoundHeld found.now }
@@ -102,5 +145,7 @@ pub fn report_text(alloc: Global, found: &Found) -> Result<Text, NoMemory>
         Found::Modes(file, modes) => modes_text_of(alloc, file, modes),
         Found::Along(along) => along_report(alloc, along),
         Found::Amplitudes(amplitudes) => amps_report(alloc, amplitudes),
+        Found::Coupled(coupled) => couple_report(alloc, coupled),
+        Found::Linked(linked) => link_report(alloc, linked),
     }
 }

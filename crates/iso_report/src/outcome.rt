@@ -9,7 +9,10 @@ ghost use Rattle.iso_text.specs.Ranges.{IsInRange};
 ghost use Rattle.report_steps.specs.HeldFiles.{AreStarsHeld, AreCellsHeld, AreRepsHeld, AreInducedHeld};
 ghost use Rattle.iso_report.specs.Outcome.{IsFound, AfterText, AfterParent, AfterPhases, AfterOrder, AfterReps, IsOutcome};
 
-use crate::found::{Found, found_along, found_amplitudes, found_listing, found_modes, report_text};
+use crate::found::{
+    Found, found_along, found_amplitudes, found_couple, found_link, found_listing, found_modes,
+    report_text,
+};
 use crate::job::Job;
 use crate::run_error::RunError;
 use iso_text::{Document, MAX_BYTES, Name, NoMemory, Sink, Text, put_all};
@@ -52,6 +55,13 @@ fn after_induced(alloc: Global, job: &Job, file: InducedFile) -> Result<Step<Fou
         } => found_listing(alloc, file, *irrep, *after, *count),
         Job::Modes { direction } => after_modes(alloc, *direction, file),
         Job::Amps => found_amplitudes(alloc, file),
+        Job::Couple {
+            irrep,
+            other,
+            after,
+            count,
+        } => found_couple(alloc, file, *irrep, *other, *after, *count),
+        Job::Link { irrep, other } => found_link(alloc, file, *irrep, *other),
         Job::Demo { .. } => unreachable!(),
     }
 }

@@ -1,4 +1,4 @@
-use Rattle.iso_report.proofs.FoundLemmas.{checked-found, list-job-found, modes-found, amps-found}
+use Rattle.iso_report.proofs.FoundLemmas.{checked-found, list-job-found, modes-found, amps-found, couple-found, link-found}
 use Rattle.iso_report.proofs.outcome.after_induced.Goals as goal
 
 pub returns-in-Check : goal.returns-in-Check
@@ -14,3 +14,13 @@ returns-in-Modes c = modes-found c.args.job.now c.in-Modes.direction c.args.file
 
 pub returns-in-Amps : goal.returns-in-Amps
 returns-in-Amps c = amps-found c.args.job.now c.args.file.divided c.in-Amps.is c.found_amplitudes.result c.found_amplitudes.ensures
+
+pub returns-in-Couple : goal.returns-in-Couple
+returns-in-Couple c =
+    let x = c.in-Couple in
+    couple-found c.args.job.now x.irrep x.other x.after x.count c.args.file.divided x.is c.found_couple.result c.found_couple.ensures
+
+pub returns-in-Link : goal.returns-in-Link
+returns-in-Link c =
+    let x = c.in-Link in
+    link-found c.args.job.now x.irrep x.other c.args.file.divided x.is c.found_link.result c.found_link.ensures
