@@ -80,6 +80,7 @@ fn job_named(command: &str, values: Values) -> Option<Job>
             irrep,
             other: other?,
         }),
+        "apart" => Some(Job::Apart),
         _ => None,
     }
 }

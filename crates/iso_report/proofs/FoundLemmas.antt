@@ -17,6 +17,7 @@ use Rattle.mode_report.specs.ModesFound.{AreModesFound}
 use Rattle.amp_report.specs.AmpsFound.{AreAmpsFound}
 use Rattle.couple_report.specs.CoupleFound.{IsCoupleFound}
 use Rattle.couple_report.specs.LinkFound.{IsLinkFound}
+use Rattle.apart_report.specs.ApartFound.{AreApartFound}
 use Rattle.std.proofs.lemmas.Result.{IfOk-weaker}
 use Rattle.iso_report.specs.Found.{Finds, finding_of}
 use Rattle.report_steps.specs.Held.{IsInducedHeld, facts_in}
@@ -59,6 +60,10 @@ couple-found j wanted other after count d e r h = subst (λ (x : Job). IfOk r (F
 pub link-found : {E : Type 0} (j : Job) (wanted : Option (List ℕ)) (other : List ℕ) (d : Divided) → j ≡ job.Link wanted other → (r : Result (Step Found) E)
     → IfOk r (Finds (IsLinkFound wanted other d)) → IfOk r (Finds (IsFound j d))
 link-found j wanted other d e r h = subst (λ (x : Job). IfOk r (Finds (IsFound x d))) (sym e) h
+
+-- which irreps are apart
+pub apart-found : {E : Type 0} (j : Job) (d : Divided) → j ≡ job.Apart → (r : Result (Step Found) E) → IfOk r (Finds (AreApartFound d)) → IfOk r (Finds (IsFound j d))
+apart-found j d e r h = subst (λ (x : Job). IfOk r (Finds (IsFound x d))) (sym e) h
 
 -- modes
 pub modes-found : {E : Type 0} (j : Job) (direction : Option (Option (List ℕ) × ℕ)) (d : Divided) → j ≡ job.Modes direction → (r : Result (Step Found) E)

@@ -20,6 +20,7 @@ use Rattle.mode_report.specs.FoundAlong.{IsAlongHeld, along_text}
 use Rattle.amp_report.specs.FoundAmps.{AreAmpsHeld, amps_of}
 use Rattle.couple_report.specs.FoundCouple.{IsCoupleHeld, couple_of}
 use Rattle.couple_report.specs.FoundLink.{IsLinkHeld, link_of}
+use Rattle.apart_report.specs.FoundPairs.{ArePairsHeld, apart_of}
 use Rattle.mode_report.specs.Held.{HasSizeOf, told_in}
 use Rattle.mode_report.specs.ModesReport.{modes_text}
 
@@ -32,6 +33,7 @@ text_of (found.Along m) = along_text m
 text_of (found.Amplitudes a) = amps_of a
 text_of (found.Coupled x) = couple_of x
 text_of (found.Linked x) = link_of x
+text_of (found.Pairs x) = apart_of x
 
 abbrev pub finding_of : Step Found → Finding
 finding_of = finding_by text_of
@@ -45,6 +47,7 @@ IsFoundHeld (found.Along m) = IsAlongHeld m
 IsFoundHeld (found.Amplitudes a) = AreAmpsHeld a
 IsFoundHeld (found.Coupled x) = IsCoupleHeld x
 IsFoundHeld (found.Linked x) = IsLinkHeld x
+IsFoundHeld (found.Pairs x) = ArePairsHeld x
 
 -- the finding is one of next, and what passed is held
 abbrev pub Finds : (Finding → Type 0) → Step Found → Type 0

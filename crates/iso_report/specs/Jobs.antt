@@ -13,4 +13,5 @@ is_built (job.Modes direction) = true
 is_built job.Amps = true
 is_built (job.Couple irrep other after count) = true
 is_built (job.Link irrep other) = true
+is_built job.Apart = true
 is_built (job.Demo number) = false

@@ -15,6 +15,7 @@ use Rattle.mode_report.specs.DirectionFound.{IsFoundAlong}
 use Rattle.amp_report.specs.AmpsFound.{AreAmpsFound}
 use Rattle.couple_report.specs.CoupleFound.{IsCoupleFound}
 use Rattle.couple_report.specs.LinkFound.{IsLinkFound}
+use Rattle.apart_report.specs.ApartFound.{AreApartFound}
 use Rattle.report_steps.specs.IrrepReport.{Facts, AreFacts}
 use Rattle.report_steps.specs.Stages.{RefusesText, IsRead, RefusesParent, IsParented, RefusesPhases, HavePhases, RefusesOrder, IsDivided, RefusesReps, AreWideReps, HaveReps, RefusesDimensions, AreWideInduced, HaveInduced}
 use Rattle.report_steps.specs.Steps.{After, never}
@@ -34,6 +35,7 @@ IsFound (job.Modes (Some (wanted, number))) d f = IsFoundAlong wanted number d f
 IsFound job.Amps d f = AreAmpsFound d f
 IsFound (job.Couple wanted other after count) d f = IsCoupleFound wanted other after count d f
 IsFound (job.Link wanted other) d f = IsLinkFound wanted other d f
+IsFound job.Apart d f = AreApartFound d f
 IsFound (job.Demo number) d f = ⊥
 
 abbrev pub AfterReps : Job → Divided → Finding → Type 0

@@ -9,9 +9,11 @@ ghost use Rattle.mode_report.specs.ModesFound.{AreModesFound};
 ghost use Rattle.amp_report.specs.AmpsFound.{AreAmpsFound};
 ghost use Rattle.couple_report.specs.CoupleFound.{IsCoupleFound};
 ghost use Rattle.couple_report.specs.LinkFound.{IsLinkFound};
+ghost use Rattle.apart_report.specs.ApartFound.{AreApartFound};
 
 use crate::check::check_report;
 use amp_report::{FoundAmplitudes, amps_found, amps_report};
+use apart_report::{FoundPairs, apart_found, apart_report};
 use couple_report::{FoundCouple, FoundLink, couple_found, couple_report, link_found, link_report};
 use iso_text::{Name, NoMemory, Text};
 use list_report::{ListedIrrep, list_found, listed_text};
@@ -36,6 +38,8 @@ pub enum Found {
     Coupled(FoundCouple),
     /// The link between two irreps, or that there is none.
     Linked(FoundLink),
+    /// Which irreps are apart.
+    Pairs(FoundPairs),
 }
 
 /// The listing of the irrep of a name, or of the first of the file where none is named; or why there
@@ -134,6 +138,17 @@ pub fn found_link(
     }
 }
 
+/// Which irreps of the file are apart.
+pub fn found_apart(alloc: Global, file: InducedFile) -> Result<Step<Found>, NoMemory>
+    requires { AreInducedHeld file }
+    ensures { IfOk result (Finds (AreApartFound file.divided)) }
+{
+    match apart_found(alloc, file)? {
+        Step::Passed(pairs) => Ok(Step::Passed(Found::Pairs(pairs))),
+        Step::Refused(refusal) => Ok(Step::Refused(refusal)),
+    }
+}
+
 /// The bytes of the report.
 pub fn report_text(alloc: Global, found: &Found) -> Result<Text, NoMemory>
     requires { IsFoundHeld found.now }
@@ -147,5 +162,6 @@ pub fn report_text(alloc: Global, found: &Found) -> Result<Text, NoMemory>
         Found::Amplitudes(amplitudes) => amps_report(alloc, amplitudes),
         Found::Coupled(coupled) => couple_report(alloc, coupled),
         Found::Linked(linked) => link_report(alloc, linked),
+        Found::Pairs(pairs) => apart_report(alloc, pairs),
     }
 }

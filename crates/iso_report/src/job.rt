@@ -39,6 +39,8 @@ pub enum Job {
         irrep: Option<Name>,
         other: Name,
     },
+    /// Which irreps of the file are apart, pair by pair.
+    Apart,
     /// The summary of a generated file, by its number below 64.
     Demo {
         number: u8,
@@ -57,6 +59,7 @@ impl Job {
             Job::Amps => true,
             Job::Couple { .. } => true,
             Job::Link { .. } => true,
+            Job::Apart => true,
             Job::Demo { .. } => false,
         }
     }

@@ -10,8 +10,8 @@ ghost use Rattle.report_steps.specs.HeldFiles.{AreStarsHeld, AreCellsHeld, AreRe
 ghost use Rattle.iso_report.specs.Outcome.{IsFound, AfterText, AfterParent, AfterPhases, AfterOrder, AfterReps, IsOutcome};
 
 use crate::found::{
-    Found, found_along, found_amplitudes, found_couple, found_link, found_listing, found_modes,
-    report_text,
+    Found, found_along, found_amplitudes, found_apart, found_couple, found_link, found_listing,
+    found_modes, report_text,
 };
 use crate::job::Job;
 use crate::run_error::RunError;
@@ -62,6 +62,7 @@ fn after_induced(alloc: Global, job: &Job, file: InducedFile) -> Result<Step<Fou
             count,
         } => found_couple(alloc, file, *irrep, *other, *after, *count),
         Job::Link { irrep, other } => found_link(alloc, file, *irrep, *other),
+        Job::Apart => found_apart(alloc, file),
         Job::Demo { .. } => unreachable!(),
     }
 }

@@ -21,4 +21,5 @@ returns c =
       amps = c.law_of_amps_found.ensures;
       couple = c.law_of_couple_found.ensures;
       link = c.law_of_link_found.ensures;
+      apart = c.law_of_apart_found.ensures;
     })

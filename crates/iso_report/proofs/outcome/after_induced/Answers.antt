@@ -1,4 +1,4 @@
-use Rattle.iso_report.proofs.FoundLemmas.{checked-found, list-job-found, modes-found, amps-found, couple-found, link-found}
+use Rattle.iso_report.proofs.FoundLemmas.{checked-found, list-job-found, modes-found, amps-found, couple-found, link-found, apart-found}
 use Rattle.iso_report.proofs.outcome.after_induced.Goals as goal
 
 pub returns-in-Check : goal.returns-in-Check
@@ -24,3 +24,6 @@ pub returns-in-Link : goal.returns-in-Link
 returns-in-Link c =
     let x = c.in-Link in
     link-found c.args.job.now x.irrep x.other c.args.file.divided x.is c.found_link.result c.found_link.ensures
+
+pub returns-in-Apart : goal.returns-in-Apart
+returns-in-Apart c = apart-found c.args.job.now c.args.file.divided c.in-Apart.is c.found_apart.result c.found_apart.ensures
