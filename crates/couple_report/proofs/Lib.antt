@@ -1,0 +1,9 @@
+pub mod CoupleLemmas
+pub mod CoupleUniqueLemmas
+pub mod LinkHeldLemmas
+pub mod LinkLemmas
+pub mod LinkUniqueLemmas
+pub mod PairLemmas
+pub mod PairListingLemmas
+pub mod PairUniqueLemmas
+pub mod TextLemmas

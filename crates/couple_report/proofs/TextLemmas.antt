@@ -1,0 +1,51 @@
+-- Reports, line by line.
+use Rattle.std.proofs.Common.{◌≡◌, sym, ap, ◌∙◌, subst, ℕ, ◌+◌, List, [], ◌∷◌, ◌++◌, map, length, flat_map, Result, IfOk, append_assoc, arith}
+use Rattle.std.specs.List.{range_with_len}
+use Rattle.std.proofs.lemmas.Grind.{flat_map-append}
+use Rattle.std.proofs.lemmas.List.{append-nil}
+use Rattle.std.proofs.lemmas.List.FromFn.{length-map-range_with_len, map-range_with_len_more}
+use Rattle.cyclo24.specs.declared.z24.Z24.{Z24}
+use Rattle.lin_alg.specs.Matrix.{MatrixView}
+use Rattle.couple.specs.declared.links.Link.{Link}
+use Rattle.couple.specs.declared.links.Link.TheVariants.{Found}
+use Rattle.couple_report.specs.FoundLink.{row_in, rows_in, link_in}
+use Rattle.couple_report.specs.LinkReport.{row_line, rank_line, link_lines}
+
+-- a line with one more behind it
+pub line-behind : (l i t0 t1 t2 : List ℕ) → t0 ≡ l ++ (10 ∷ []) → t1 ≡ t0 ++ i → t2 ≡ t1 ++ (10 ∷ []) → t2 ≡ l ++ (10 ∷ (i ++ (10 ∷ [])))
+line-behind l i t0 t1 t2 a b c =
+    c ∙ ap (λ t. t ++ (10 ∷ [])) (b ∙ ap (λ t. t ++ i) a) ∙ append_assoc (l ++ (10 ∷ [])) i (10 ∷ []) ∙ append_assoc l (10 ∷ []) (i ++ (10 ∷ []))
+
+-- a line with two more behind it, the second a word and a number
+pub lines-behind : (l i w n t0 t1 t2 t3 t4 : List ℕ) → t0 ≡ l ++ (10 ∷ []) → t1 ≡ t0 ++ i → t2 ≡ t1 ++ (10 ∷ w) → t3 ≡ t2 ++ n → t4 ≡ t3 ++ (10 ∷ [])
+    → t4 ≡ l ++ (10 ∷ (i ++ (10 ∷ ((w ++ n) ++ (10 ∷ [])))))
+lines-behind l i w n t0 t1 t2 t3 t4 a b c d e =
+    let h : List ℕ = (l ++ (10 ∷ [])) ++ i in
+    e ∙ ap (λ t. t ++ (10 ∷ [])) (d ∙ ap (λ t. t ++ n) (c ∙ ap (λ t. t ++ (10 ∷ w)) (b ∙ ap (λ t. t ++ i) a)))
+    ∙ append_assoc (h ++ (10 ∷ w)) n (10 ∷ []) ∙ append_assoc h (10 ∷ w) (n ++ (10 ∷ []))
+    ∙ ap (λ t. h ++ (10 ∷ t)) (sym (append_assoc w n (10 ∷ [])))
+    ∙ append_assoc (l ++ (10 ∷ [])) i (10 ∷ ((w ++ n) ++ (10 ∷ []))) ∙ append_assoc l (10 ∷ []) (i ++ (10 ∷ ((w ++ n) ++ (10 ∷ []))))
+
+-- a head of two lines with more behind it
+pub two-behind : (l i rest : List ℕ) → (l ++ (10 ∷ (i ++ (10 ∷ [])))) ++ rest ≡ l ++ (10 ∷ (i ++ (10 ∷ rest)))
+two-behind l i rest = append_assoc l (10 ∷ (i ++ (10 ∷ []))) rest ∙ ap (λ t. l ++ (10 ∷ t)) (append_assoc i (10 ∷ []) rest)
+
+-- a head of three lines with more behind it
+pub three-behind : (l i k rest : List ℕ) → (l ++ (10 ∷ (i ++ (10 ∷ (k ++ (10 ∷ [])))))) ++ rest ≡ l ++ (10 ∷ (i ++ (10 ∷ (k ++ (10 ∷ rest)))))
+three-behind l i k rest = append_assoc l (10 ∷ (i ++ (10 ∷ (k ++ (10 ∷ []))))) rest ∙ ap (λ t. l ++ (10 ∷ t)) (two-behind i k rest)
+
+-- a list with one item more
+pub table-more : {X A : Type 0} (f : X → List A) (g : ℕ → X) (n : ℕ) (old t new : List A) → t ≡ old ++ flat_map f (map g (range_with_len 0 n)) → new ≡ t ++ f (g n)
+    → new ≡ old ++ flat_map f (map g (range_with_len 0 (n + 1)))
+table-more f g n old t new a b =
+    let xs = map g (range_with_len 0 n) in
+    let more = ap (flat_map f) (map-range_with_len_more g 0 n n (omega arith)) ∙ flat_map-append f xs (g n ∷ []) ∙ ap (λ z. flat_map f xs ++ z) (append-nil (f (g n))) in
+    b ∙ ap (λ z. z ++ f (g n)) a ∙ append_assoc old (flat_map f xs) (f (g n)) ∙ ap (λ z. old ++ z) (sym more)
+
+-- the lines of a link that is found
+pub lines-found : {E : Type 0} (m : MatrixView Z24) (rank : ℕ) (x : Link) (r : Result (List ℕ) E) → x ≡ Found m rank → IfOk r (λ t. t ≡ rank_line rank m.rows m.cols ++ flat_map row_line (rows_in m))
+    → IfOk r (λ t. t ≡ link_lines (link_in x))
+lines-found m rank x r e h =
+    let count : length (rows_in m) ≡ m.rows = length-map-range_with_len (λ i. row_in m i m.cols) 0 m.rows in
+    let P : List ℕ → Type 0 = λ z. IfOk r (λ t. t ≡ z) in
+    subst P (ap (λ n. rank_line rank n m.cols ++ flat_map row_line (rows_in m)) (sym count) ∙ ap (λ y. link_lines (link_in y)) (sym e)) h

@@ -1,0 +1,25 @@
+//! What `couple` and `link` do behind the steps that all jobs share, and their reports.
+//!
+//! Two irreps of a file are taken together. For `couple` the quotient acts on the pairs of their order
+//! parameters, the coordinates of the first in front, and one direction is listed for each class of
+//! isotropy subgroups of pairs. For `link` the matrices that both induce are linked. Conventions: elements
+//! are numbered from 0, directions from 1. The layer above uses `couple_found` and `couple_report`,
+//! `link_found` and `link_report`.
+#![tactic(auto)]
+
+mod closing;
+mod couple;
+mod couple_text;
+mod forms;
+mod laws;
+mod link;
+mod link_text;
+mod places;
+mod together;
+
+pub use couple::couple_found;
+pub use couple_text::couple_report;
+pub use laws::{law_of_couple_found, law_of_coupled_listing, law_of_link_found};
+pub use link::{FoundLink, link_found};
+pub use link_text::link_report;
+pub use together::FoundCouple;
