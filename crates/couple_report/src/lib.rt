@@ -8,18 +8,18 @@
 #![tactic(auto)]
 
 mod closing;
-mod couple;
 mod couple_text;
 mod forms;
 mod laws;
 mod link;
 mod link_text;
+mod pair_listing;
 mod places;
 mod together;
 
-pub use couple::couple_found;
 pub use couple_text::couple_report;
 pub use laws::{law_of_couple_found, law_of_coupled_listing, law_of_link_found};
 pub use link::{FoundLink, link_found};
 pub use link_text::link_report;
+pub use pair_listing::couple_found;
 pub use together::FoundCouple;

@@ -3,7 +3,7 @@ use Rattle.couple_report.specs.CoupleFound.{RefusesNone, AreWideCoupledClasses, 
 use Rattle.couple_report.specs.FoundCouple.{couple_of, IsCoupleHeld}
 use Rattle.couple_report.specs.HeldPairs.{coupled_in}
 use Rattle.couple_report.proofs.CoupleLemmas.{listed-found}
-use Rattle.couple_report.proofs.couple.after_closing.Goals as goal
+use Rattle.couple_report.proofs.pair_listing.after_closing.Goals as goal
 
 pub returns-in-Passed : goal.returns-in-Passed
 returns-in-Passed g c =

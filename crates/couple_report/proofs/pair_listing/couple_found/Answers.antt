@@ -5,7 +5,7 @@ use Rattle.couple_report.specs.FoundCouple.{couple_of, IsCoupleHeld}
 use Rattle.couple_report.specs.HeldPairs.{chosen_pair}
 use Rattle.couple_report.specs.Pairs.{RefusesPair, ArePair}
 use Rattle.couple_report.proofs.PairLemmas.{places-pair}
-use Rattle.couple_report.proofs.couple.couple_found.Goals as goal
+use Rattle.couple_report.proofs.pair_listing.couple_found.Goals as goal
 
 pub returns-in-Passed : goal.returns-in-Passed
 returns-in-Passed c =

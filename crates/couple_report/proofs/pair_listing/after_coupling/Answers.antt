@@ -2,7 +2,7 @@ use Rattle.report_steps.specs.FindingLaws.{found-wide, found-next}
 use Rattle.couple_report.specs.CoupleFound.{RefusesCoupledSubspaces, AreWideCoupledSubspaces, AreFewCoupled, AfterCoupledClosing}
 use Rattle.couple_report.specs.FoundCouple.{couple_of, IsCoupleHeld}
 use Rattle.couple_report.specs.HeldPairs.{coupled_in}
-use Rattle.couple_report.proofs.couple.after_coupling.Goals as goal
+use Rattle.couple_report.proofs.pair_listing.after_coupling.Goals as goal
 
 pub after_closing-requires-clause-closed : goal.after_closing-requires-clause-closed
 after_closing-requires-clause-closed g c = (rw c.in-Passed.is at c.in_ok-spaces.ensures).1

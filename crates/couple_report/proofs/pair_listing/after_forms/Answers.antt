@@ -1,5 +1,5 @@
 use Rattle.couple_report.proofs.CoupleLemmas.{one-group, acts-together, coupling-next, coupling-error}
-use Rattle.couple_report.proofs.couple.after_forms.Goals as goal
+use Rattle.couple_report.proofs.pair_listing.after_forms.Goals as goal
 
 pub new-requires-clause-one : goal.new-requires-clause-one
 new-requires-clause-one c = one-group c.args.together.quotient c.args.forms c.requires.held

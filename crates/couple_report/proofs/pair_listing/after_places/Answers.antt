@@ -4,7 +4,7 @@ use Rattle.couple_report.specs.FoundCouple.{couple_of, IsCoupleHeld}
 use Rattle.couple_report.specs.HeldPairs.{chosen_pair}
 use Rattle.couple_report.specs.Pairs.{RefusesForms, AreWideForms, AreFormed}
 use Rattle.couple_report.proofs.CoupleLemmas.{pair-next}
-use Rattle.couple_report.proofs.couple.after_places.Goals as goal
+use Rattle.couple_report.proofs.pair_listing.after_places.Goals as goal
 
 pub returns-in-Passed : goal.returns-in-Passed
 returns-in-Passed c i j a b =
