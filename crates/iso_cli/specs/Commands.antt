@@ -45,6 +45,9 @@ commands =
     ∷ row (codes "modes") (λ given. modes_job (given (codes "irrep")) (number_of given (codes "direction")))
     ∷ row (codes "amps") (λ given. Some job.Amps)
     ∷ row (codes "demo") (λ given. option_and_then demo_job (number_of given (codes "number")))
+    ∷ row (codes "couple") (λ given. option_map (λ other. job.Couple (given (codes "irrep")) other (unwrap_or (number_of given (codes "after")) 0) (number_of given (codes "count"))) (given (codes "with")))
+    ∷ row (codes "link") (λ given. option_map (job.Link (given (codes "irrep"))) (given (codes "with")))
+    ∷ row (codes "apart") (λ given. Some job.Apart)
     ∷ []
 
 -- the job of the command in its row

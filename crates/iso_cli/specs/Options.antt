@@ -32,12 +32,13 @@ option_row kind word commands = record { word = word; kind = kind; commands = co
 
 abbrev pub options : List OptionRow
 options =
-    option_row name (codes "irrep") (codes "list" ∷ codes "modes" ∷ [])
+    option_row name (codes "irrep") (codes "list" ∷ codes "modes" ∷ codes "couple" ∷ codes "link" ∷ [])
     ∷ option_row number (codes "direction") (codes "modes" ∷ [])
-    ∷ option_row number (codes "after") (codes "list" ∷ [])
-    ∷ option_row number (codes "count") (codes "list" ∷ [])
+    ∷ option_row number (codes "after") (codes "list" ∷ codes "couple" ∷ [])
+    ∷ option_row number (codes "count") (codes "list" ∷ codes "couple" ∷ [])
     ∷ option_row nothing (codes "tally") (codes "list" ∷ [])
     ∷ option_row number (codes "number") (codes "demo" ∷ [])
+    ∷ option_row name (codes "with") (codes "couple" ∷ codes "link" ∷ [])
     ∷ []
 
 abbrev pub wants_text : Kind → Bool

@@ -19,3 +19,4 @@ pub record IsValues (given : Texts) (values : Values) : Type 0 where
   pub count : values.count ≡ number_of given (codes "count")
   pub number : values.number ≡ number_of given (codes "number")
   pub tally : values.tally ≡ is_tallied given
+  pub other : values.other ≡ given (codes "with")

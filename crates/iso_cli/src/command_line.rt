@@ -56,7 +56,7 @@ fn bare<'a>(alloc: Global) -> Command<'a>
 }
 
 // The options that take a text.
-static OPTIONS: [&str; 5] = ["irrep", "direction", "after", "count", "number"];
+static OPTIONS: [&str; 6] = ["irrep", "direction", "after", "count", "number", "with"];
 
 // The command with options that take a text.
 fn with_options<'a>(

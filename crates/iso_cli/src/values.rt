@@ -125,6 +125,7 @@ pub(crate) struct Values {
     pub(crate) count: Option<u64>,
     pub(crate) number: Option<u64>,
     pub(crate) tally: bool,
+    pub(crate) other: Option<Name>,
 }
 
 /// What the options give to a command; none where one of them doesn't suit it.
@@ -134,11 +135,17 @@ pub(crate) fn read_values(found: &ArgMatches<'_>, command: &str) -> Option<Value
         × (list_all (suits command.now (texts_in found.now)) options ≡ true)) }
 {
     Some(Values {
-        irrep: name_given(found, command, "irrep", &["list", "modes"])?,
+        irrep: name_given(
+            found,
+            command,
+            "irrep",
+            &["list", "modes", "couple", "link"],
+        )?,
         direction: number_given(found, command, "direction", &["modes"])?,
-        after: number_given(found, command, "after", &["list"])?,
-        count: number_given(found, command, "count", &["list"])?,
+        after: number_given(found, command, "after", &["list", "couple"])?,
+        count: number_given(found, command, "count", &["list", "couple"])?,
         number: number_given(found, command, "number", &["demo"])?,
         tally: flag_given(found, command, "tally", &["list"])?,
+        other: name_given(found, command, "with", &["couple", "link"])?,
     })
 }

@@ -56,6 +56,7 @@ fn job_named(command: &str, values: Values) -> Option<Job>
         count,
         number,
         tally,
+        other,
     } = values;
     let after = after.unwrap_or(0);
     match command {
@@ -69,6 +70,17 @@ fn job_named(command: &str, values: Values) -> Option<Job>
         "modes" => modes_job(irrep, direction),
         "amps" => Some(Job::Amps),
         "demo" => demo_job(number?),
+        "couple" => Some(Job::Couple {
+            irrep,
+            other: other?,
+            after,
+            count,
+        }),
+        "link" => Some(Job::Link {
+            irrep,
+            other: other?,
+        }),
+        "apart" => Some(Job::Apart),
         _ => None,
     }
 }

@@ -20,6 +20,9 @@ use Rattle.list_report.specs.Listings.{IsListFound}
 use Rattle.mode_report.specs.Atoms.{RefusesAtoms}
 use Rattle.mode_report.specs.DirectionFound.{IsFoundAlong}
 use Rattle.amp_report.specs.AmpsFound.{AreAmpsFound}
+use Rattle.couple_report.specs.CoupleFound.{IsCoupleFound}
+use Rattle.couple_report.specs.LinkFound.{IsLinkFound}
+use Rattle.apart_report.specs.ApartFound.{AreApartFound}
 use Rattle.mode_report.specs.ModesFound.{AreWideAll, AreToldOf, IsReported, AreModesFound}
 
 -- the tolerance of a file is below a quarter of a cell edge
@@ -47,6 +50,9 @@ pub record AreSettled : Type 0 where
   pub along : (d : Divided) → IsQuotient d.quotient → (wanted : Option (List ℕ)) (number : ℕ) → FindsOneAt (IsFoundAlong wanted number) d
   pub tolerance : (bytes : List ℕ) (file : File) → IsRead bytes file → HasSmallTolerance file
   pub amps : (d : Divided) → IsQuotient d.quotient → HasSmallTolerance d.file → FindsOneAt AreAmpsFound d
+  pub couple : (d : Divided) → IsQuotient d.quotient → (wanted : Option (List ℕ)) (other : List ℕ) (after : ℕ) (count : Option ℕ) → FindsOneAt (IsCoupleFound wanted other after count) d
+  pub link : (d : Divided) → IsQuotient d.quotient → (wanted : Option (List ℕ)) (other : List ℕ) → FindsOneAt (IsLinkFound wanted other) d
+  pub apart : (d : Divided) → IsQuotient d.quotient → FindsOneAt AreApartFound d
 
 module _ (s : AreSettled) (j : Job) where
   module _ (d : Divided) (h : IsQuotient d.quotient) (small : HasSmallTolerance d.file) where
@@ -63,6 +69,9 @@ module _ (s : AreSettled) (j : Job) where
     job-found (job.Modes None) f g a b u v = modes-one f g a b u v
     job-found (job.Modes (Some (wanted, number))) f g a b u v = s.along d h wanted number f g a b u v
     job-found job.Amps f g a b u v = s.amps d h small f g a b u v
+    job-found (job.Couple wanted other after count) f g a b u v = s.couple d h wanted other after count f g a b u v
+    job-found (job.Link wanted other) f g a b u v = s.link d h wanted other f g a b u v
+    job-found job.Apart f g a b u v = s.apart d h f g a b u v
     job-found (job.Demo number) f g a b u v = absurd a
 
     induced-found : FindsOneAt (AfterReps j) d

@@ -13,6 +13,9 @@ use Rattle.list_report.specs.Listings.{IsListFound}
 use Rattle.mode_report.specs.ModesFound.{AreModesFound}
 use Rattle.mode_report.specs.DirectionFound.{IsFoundAlong}
 use Rattle.amp_report.specs.AmpsFound.{AreAmpsFound}
+use Rattle.couple_report.specs.CoupleFound.{IsCoupleFound}
+use Rattle.couple_report.specs.LinkFound.{IsLinkFound}
+use Rattle.apart_report.specs.ApartFound.{AreApartFound}
 use Rattle.report_steps.specs.IrrepReport.{Facts, AreFacts}
 use Rattle.report_steps.specs.Stages.{RefusesText, IsRead, RefusesParent, IsParented, RefusesPhases, HavePhases, RefusesOrder, IsDivided, RefusesReps, AreWideReps, HaveReps, RefusesDimensions, AreWideInduced, HaveInduced}
 use Rattle.report_steps.specs.Steps.{After, never}
@@ -22,7 +25,7 @@ pub use Rattle.report_steps.specs.Finding.{Finding, report, refused}
 abbrev pub IsChecked : Divided → Finding → Type 0
 IsChecked d f = (facts : List Facts) × AreFacts d.quotient d.file.irreps facts × (f ≡ report (check_text d facts))
 
--- the report of `check`, `list`, `modes` or `amps`; jobs that are not built find nothing
+-- the report of the job; jobs that are not built find nothing
 abbrev pub IsFound : Job → Divided → Finding → Type 0
 IsFound job.Check d f = IsChecked d f
 IsFound (job.List wanted after count false) d f = IsListFound wanted after count d f
@@ -30,6 +33,9 @@ IsFound (job.List wanted after count true) d f = ⊥
 IsFound (job.Modes None) d f = AreModesFound d f
 IsFound (job.Modes (Some (wanted, number))) d f = IsFoundAlong wanted number d f
 IsFound job.Amps d f = AreAmpsFound d f
+IsFound (job.Couple wanted other after count) d f = IsCoupleFound wanted other after count d f
+IsFound (job.Link wanted other) d f = IsLinkFound wanted other d f
+IsFound job.Apart d f = AreApartFound d f
 IsFound (job.Demo number) d f = ⊥
 
 abbrev pub AfterReps : Job → Divided → Finding → Type 0

@@ -25,6 +25,22 @@ pub enum Job {
     },
     /// The amplitudes of the listed atoms.
     Amps,
+    /// The isotropy subgroups of two irreps together, the first of them the first of the file where none
+    /// is named: those behind the first `after`, at most `count`.
+    Couple {
+        irrep: Option<Name>,
+        other: Name,
+        after: u64,
+        count: Option<u64>,
+    },
+    /// The link between what two irreps induce, the first of them the first of the file where none is
+    /// named.
+    Link {
+        irrep: Option<Name>,
+        other: Name,
+    },
+    /// Which irreps of the file are apart, pair by pair.
+    Apart,
     /// The summary of a generated file, by its number below 64.
     Demo {
         number: u8,
@@ -32,7 +48,7 @@ pub enum Job {
 }
 
 impl Job {
-    /// Whether the job is built so far: `check`, `list` without a tally, `modes` and `amps`.
+    /// Whether the job is built so far: all but `list` with a tally, and `demo`.
     pub fn is_built(&self) -> bool
         ensures value { result ≡ is_built self.now }
     {
@@ -41,6 +57,9 @@ impl Job {
             Job::List { tally, .. } => !tally,
             Job::Modes { .. } => true,
             Job::Amps => true,
+            Job::Couple { .. } => true,
+            Job::Link { .. } => true,
+            Job::Apart => true,
             Job::Demo { .. } => false,
         }
     }

@@ -3,6 +3,8 @@ ghost use Rattle.iso_report.specs.OutcomeLaws.{HasOneOutcome};
 
 use crate::job::Job;
 use amp_report::law_of_amps_found;
+use apart_report::law_of_apart_found;
+use couple_report::{law_of_couple_found, law_of_link_found};
 use iso_text::law_of_ranges;
 use list_report::law_of_list;
 use mode_report::{law_of_modes_along, law_of_modes_found};
@@ -19,4 +21,7 @@ pub fn law_of_outcomes()
     law_of_modes_found();
     law_of_modes_along();
     law_of_amps_found();
+    law_of_couple_found();
+    law_of_link_found();
+    law_of_apart_found();
 }

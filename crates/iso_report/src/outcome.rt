@@ -1,15 +1,17 @@
 // A job over a file's bytes.
-ghost use Rattle.std.specs.Prelude.{◌≡◌, ◌≤◌, true, length, IfOk, IfErr, IsErrOf, MatchResult};
+ghost use Rattle.std.specs.Prelude.{◌≡◌, ◌≤◌, true, length, IfOk, IsErrOf, MatchResult};
 ghost use Rattle.iso_report.specs.Endings.{RunIsDone, RunFails, HasNoReport, change};
-ghost use Rattle.iso_report.specs.Found.{text_of, IsFoundHeld, Finds};
-ghost use Rattle.iso_report.specs.declared.run_error.RunError.TheVariants as run_error;
+ghost use Rattle.iso_report.specs.Found.{Finds};
 ghost use Rattle.report_steps.specs.Finding.{report};
 ghost use Rattle.iso_report.specs.Jobs.{is_built};
 ghost use Rattle.iso_text.specs.Ranges.{IsInRange};
 ghost use Rattle.report_steps.specs.HeldFiles.{AreStarsHeld, AreCellsHeld, AreRepsHeld, AreInducedHeld};
 ghost use Rattle.iso_report.specs.Outcome.{IsFound, AfterText, AfterParent, AfterPhases, AfterOrder, AfterReps, IsOutcome};
 
-use crate::found::{Found, found_along, found_amplitudes, found_listing, found_modes, report_text};
+use crate::found::{
+    found_along, found_amplitudes, found_apart, found_checked, found_couple, found_link,
+    found_listing, found_modes,
+};
 use crate::job::Job;
 use crate::run_error::RunError;
 use iso_text::{Document, MAX_BYTES, Name, NoMemory, Sink, Text, put_all};
@@ -24,7 +26,7 @@ fn after_modes(
     alloc: Global,
     direction: Option<(Option<Name>, u64)>,
     file: InducedFile,
-) -> Result<Step<Found>, NoMemory>
+) -> Result<Step<Text>, NoMemory>
     requires held { AreInducedHeld file }
     requires ranged { IsInRange file.divided.file }
     ensures { IfOk result (Finds (IsFound (Job.Modes direction) file.divided)) }
@@ -36,14 +38,14 @@ fn after_modes(
 }
 
 // What is found behind the representations that the small ones induce.
-fn after_induced(alloc: Global, job: &Job, file: InducedFile) -> Result<Step<Found>, NoMemory>
+fn after_induced(alloc: Global, job: &Job, file: InducedFile) -> Result<Step<Text>, NoMemory>
     requires built { is_built job.now ≡ true }
     requires held { AreInducedHeld file }
     requires ranged { IsInRange file.divided.file }
     ensures { IfOk result (Finds (IsFound job.now file.divided)) }
 {
     match job {
-        Job::Check => Ok(Step::Passed(Found::Checked(file))),
+        Job::Check => found_checked(alloc, file),
         Job::List {
             irrep,
             after,
@@ -52,12 +54,20 @@ fn after_induced(alloc: Global, job: &Job, file: InducedFile) -> Result<Step<Fou
         } => found_listing(alloc, file, *irrep, *after, *count),
         Job::Modes { direction } => after_modes(alloc, *direction, file),
         Job::Amps => found_amplitudes(alloc, file),
+        Job::Couple {
+            irrep,
+            other,
+            after,
+            count,
+        } => found_couple(alloc, file, *irrep, *other, *after, *count),
+        Job::Link { irrep, other } => found_link(alloc, file, *irrep, *other),
+        Job::Apart => found_apart(alloc, file),
         Job::Demo { .. } => unreachable!(),
     }
 }
 
 // What is found behind the small representations.
-fn after_reps(alloc: Global, job: &Job, represented: Represented) -> Result<Step<Found>, NoMemory>
+fn after_reps(alloc: Global, job: &Job, represented: Represented) -> Result<Step<Text>, NoMemory>
     requires built { is_built job.now ≡ true }
     requires held { AreRepsHeld represented }
     requires ranged { IsInRange represented.divided.file }
@@ -70,7 +80,7 @@ fn after_reps(alloc: Global, job: &Job, represented: Represented) -> Result<Step
 }
 
 // What is found behind the quotient.
-fn after_order(alloc: Global, job: &Job, celled: Celled) -> Result<Step<Found>, NoMemory>
+fn after_order(alloc: Global, job: &Job, celled: Celled) -> Result<Step<Text>, NoMemory>
     requires built { is_built job.now ≡ true }
     requires held { AreCellsHeld celled }
     requires ranged { IsInRange celled.divided.file }
@@ -83,7 +93,7 @@ fn after_order(alloc: Global, job: &Job, celled: Celled) -> Result<Step<Found>, 
 }
 
 // What is found behind the wave vectors.
-fn after_phases(alloc: Global, job: &Job, starred: Starred) -> Result<Step<Found>, NoMemory>
+fn after_phases(alloc: Global, job: &Job, starred: Starred) -> Result<Step<Text>, NoMemory>
     requires built { is_built job.now ≡ true }
     requires held { AreStarsHeld starred }
     requires ranged { IsInRange starred.parented.file }
@@ -96,7 +106,7 @@ fn after_phases(alloc: Global, job: &Job, starred: Starred) -> Result<Step<Found
 }
 
 // What is found behind the parent group.
-fn after_parent(alloc: Global, job: &Job, parented: Parented) -> Result<Step<Found>, NoMemory>
+fn after_parent(alloc: Global, job: &Job, parented: Parented) -> Result<Step<Text>, NoMemory>
     requires built { is_built job.now ≡ true }
     requires held { IsInRange parented.file }
     ensures { IfOk result (Finds (AfterParent job.now parented)) }
@@ -108,7 +118,7 @@ fn after_parent(alloc: Global, job: &Job, parented: Parented) -> Result<Step<Fou
 }
 
 // What is found behind the text.
-fn after_text(alloc: Global, job: &Job, document: Document) -> Result<Step<Found>, NoMemory>
+fn after_text(alloc: Global, job: &Job, document: Document) -> Result<Step<Text>, NoMemory>
     requires built { is_built job.now ≡ true }
     requires held { IsInRange document }
     ensures { IfOk result (Finds (AfterText job.now document)) }
@@ -120,7 +130,7 @@ fn after_text(alloc: Global, job: &Job, document: Document) -> Result<Step<Found
 }
 
 // What the definitions say for a job and a file's bytes.
-fn find(alloc: Global, job: &Job, bytes: &[u8]) -> Result<Step<Found>, NoMemory>
+fn find(alloc: Global, job: &Job, bytes: &[u8]) -> Result<Step<Text>, NoMemory>
     requires built { is_built job.now ≡ true }
     requires few { length bytes.now ≤ MAX_BYTES }
     ensures { IfOk result (Finds (IsOutcome job.now bytes.now)) }
@@ -131,18 +141,6 @@ fn find(alloc: Global, job: &Job, bytes: &[u8]) -> Result<Step<Found>, NoMemory>
     }
 }
 
-// The text of what was found.
-fn text_found(alloc: Global, found: Found) -> Result<Text, RunError>
-    requires { IsFoundHeld found }
-    ensures text { IfOk result (λ text. text ≡ text_of found) }
-    ensures error { IfErr result (λ e. e ≡ run_error.NoMemory) }
-{
-    match report_text(alloc, &found) {
-        Ok(text) => Ok(text),
-        Err(_) => Err(RunError::NoMemory),
-    }
-}
-
 // The text of the report of a job over a file's bytes, or why there is none.
 fn report_of(alloc: Global, job: &Job, bytes: &[u8]) -> Result<Text, RunError>
     requires built { is_built job.now ≡ true }
@@ -150,7 +148,7 @@ fn report_of(alloc: Global, job: &Job, bytes: &[u8]) -> Result<Text, RunError>
     ensures { MatchResult result (λ text. IsOutcome job.now bytes.now (report text)) (HasNoReport job.now bytes.now) }
 {
     match find(alloc, job, bytes) {
-        Ok(Step::Passed(found)) => text_found(alloc, found),
+        Ok(Step::Passed(text)) => Ok(text),
         Ok(Step::Refused(refusal)) => Err(RunError::Refused(refusal)),
         Err(_) => Err(RunError::NoMemory),
     }

@@ -19,4 +19,7 @@ returns c =
       along = c.law_of_modes_along.ensures;
       tolerance = λ bytes file h. small-tolerance file (c.law_of_ranges.ensures.files (lines_of bytes) file h);
       amps = c.law_of_amps_found.ensures;
+      couple = c.law_of_couple_found.ensures;
+      link = c.law_of_link_found.ensures;
+      apart = c.law_of_apart_found.ensures;
     })

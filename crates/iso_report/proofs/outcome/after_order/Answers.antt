@@ -3,7 +3,7 @@ use Rattle.iso_text.specs.Ranges.{IsInRange}
 use Rattle.report_steps.specs.Contexts.{Divided}
 use Rattle.iso_report.specs.Outcome.{AfterReps}
 use Rattle.report_steps.specs.Stages.{RefusesReps, AreWideReps, HaveReps}
-use Rattle.iso_report.specs.Found.{text_of, IsFoundHeld}
+use Rattle.iso_report.specs.Found.{itself, IsWritable}
 use Rattle.report_steps.specs.FindingLaws.{found-wide, found-next}
 use Rattle.iso_report.proofs.outcome.after_order.Goals as goal
 
@@ -18,7 +18,7 @@ after_reps-requires-clause-ranged c =
 pub returns-in-Passed : goal.returns-in-Passed
 returns-in-Passed c =
     let passed = rw c.in-Passed.is at c.in_ok-represented.ensures in
-    found-next text_of IsFoundHeld RefusesReps AreWideReps HaveReps (AfterReps c.args.job.now) c.args.celled.divided c.in-Passed.represented.divided passed.0 c.after_reps.result c.after_reps.ensures
+    found-next itself IsWritable RefusesReps AreWideReps HaveReps (AfterReps c.args.job.now) c.args.celled.divided c.in-Passed.represented.divided passed.0 c.after_reps.result c.after_reps.ensures
 
 pub returns-in-Refused : goal.returns-in-Refused
-returns-in-Refused c = found-wide text_of IsFoundHeld RefusesReps AreWideReps HaveReps (AfterReps c.args.job.now) c.args.celled.divided c.in-Refused.refusal (rw c.in-Refused.is at c.in_ok-represented.ensures)
+returns-in-Refused c = found-wide itself IsWritable RefusesReps AreWideReps HaveReps (AfterReps c.args.job.now) c.args.celled.divided c.in-Refused.refusal (rw c.in-Refused.is at c.in_ok-represented.ensures)

@@ -4,7 +4,7 @@ use Rattle.report_steps.specs.Contexts.{Parented}
 use Rattle.iso_report.specs.Outcome.{AfterPhases}
 use Rattle.report_steps.specs.Stages.{RefusesPhases, HavePhases}
 use Rattle.report_steps.specs.Steps.{never}
-use Rattle.iso_report.specs.Found.{text_of, IsFoundHeld}
+use Rattle.iso_report.specs.Found.{itself, IsWritable}
 use Rattle.report_steps.specs.FindingLaws.{found-refused, found-next}
 use Rattle.iso_report.proofs.outcome.after_parent.Goals as goal
 
@@ -19,7 +19,7 @@ after_phases-requires-clause-ranged c =
 pub returns-in-Passed : goal.returns-in-Passed
 returns-in-Passed c =
     let passed = rw c.in-Passed.is at c.in_ok-starred.ensures in
-    found-next text_of IsFoundHeld RefusesPhases never HavePhases (AfterPhases c.args.job.now) c.args.parented c.in-Passed.starred.parented passed.0 c.after_phases.result c.after_phases.ensures
+    found-next itself IsWritable RefusesPhases never HavePhases (AfterPhases c.args.job.now) c.args.parented c.in-Passed.starred.parented passed.0 c.after_phases.result c.after_phases.ensures
 
 pub returns-in-Refused : goal.returns-in-Refused
-returns-in-Refused c = found-refused text_of IsFoundHeld RefusesPhases never HavePhases (AfterPhases c.args.job.now) c.args.parented c.in-Refused.refusal (rw c.in-Refused.is at c.in_ok-starred.ensures)
+returns-in-Refused c = found-refused itself IsWritable RefusesPhases never HavePhases (AfterPhases c.args.job.now) c.args.parented c.in-Refused.refusal (rw c.in-Refused.is at c.in_ok-starred.ensures)
