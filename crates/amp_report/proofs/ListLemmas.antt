@@ -32,11 +32,3 @@ each-by R [] [] e f = tt
 each-by R [] (y ∷ ys) e f = absurd (omega arith)
 each-by R (x ∷ xs) [] e f = absurd (omega arith)
 each-by R (x ∷ xs) (y ∷ ys) e f = (f 0 x y refl refl, each-by R xs ys (omega arith) (λ n a b s t. f (suc n) a b s t))
-
-pub each-through : {A B C : Type 0} (R : A → B → Type 0) (S : B → C → Type 0) (xs : List A) (ys : List B) (zs : List C) → Each R xs ys → Each S ys zs → Each (λ x z. (y : B) × R x y × S y z) xs zs
-each-through R S [] [] [] h k = tt
-each-through R S [] [] (z ∷ zs) h k = k
-each-through R S [] (y ∷ ys) zs h k = absurd h
-each-through R S (x ∷ xs) [] zs h k = absurd h
-each-through R S (x ∷ xs) (y ∷ ys) [] h k = k
-each-through R S (x ∷ xs) (y ∷ ys) (z ∷ zs) h k = ((y, h.0, k.0), each-through R S xs ys zs h.1 k.1)

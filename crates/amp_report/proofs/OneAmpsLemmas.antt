@@ -28,7 +28,8 @@ use Rattle.amp_report.proofs.AlikeMatchLemmas.{AreOrbitsAlike, cause-alike, shif
 use Rattle.amp_report.proofs.ListLemmas.{each-there}
 use Rattle.amp_report.proofs.MatchCauseLemmas.{IsAnswer, causes-one, shifts-or-cause}
 use Rattle.amp_report.proofs.MatchShiftLemmas.{HaveOneDisplacement, HaveOnePlace, shifts-one}
-use Rattle.amp_report.proofs.OneModesLemmas.{InduceOne, HaveOneOrbit, HaveOneBasis, orbits-alike, moded-bases, modes-told}
+use Rattle.mode_report.specs.OneWeightLaws.{InduceOne, HaveOneOrbit, HaveOneBasis}
+use Rattle.amp_report.proofs.OneModesLemmas.{orbits-alike, moded-bases, modes-told}
 use Rattle.amp_report.proofs.TextLemmas.{told-count}
 
 -- the law of amplitudes

@@ -1,40 +1,20 @@
 // The fixed subspaces of an action on pairs, and the directions of their classes.
-ghost use Rattle.std.specs.Prelude.{◌≡◌, ◌<◌, ◌≤◌, IfOk};
+ghost use Rattle.std.specs.Prelude.{IfOk};
 ghost use Rattle.report_steps.specs.Steps.{Answers, OrWide};
-ghost use Rattle.list_report.specs.Closing.{limit_of, order_by};
 ghost use Rattle.list_report.specs.HeldListings.{AreClosed};
 ghost use Rattle.couple_report.specs.CoupleFound.{RefusesCoupledSubspaces, AreWideCoupledSubspaces, AreFewCoupled, RefusesNone, AreWideCoupledClasses};
 ghost use Rattle.couple_report.specs.HeldPairs.{coupled_in, IsTogether, AreCoupledDirections};
 
 use crate::together::Together;
-use class_list::{ListError, Listing, Order, listing};
+use class_list::{ListError, Listing, listing};
 use cyclo24::K24;
 use fix_lattice::{CloseError, Subspaces, close};
 use iso_text::NoMemory;
 use lin_alg::{Acts, Steps};
+use list_report::{direction_order, subspace_limit};
 use report_steps::{Refusal, Step};
 use std::alloc::Global;
 use std::sync::ledger::Ledger;
-
-// How many fixed subspaces a file of this format may have.
-fn limit(format: u8) -> u32
-    ensures value { result ≡ limit_of format }
-    ensures some { 0 < result }
-    ensures few { result ≤ 16384 }
-{
-    if format == 2 { 16384 } else { 4096 }
-}
-
-// How the directions of a file of this format are ordered.
-fn order(format: u8) -> Order
-    ensures { result ≡ order_by format }
-{
-    if format == 2 {
-        Order::Index
-    } else {
-        Order::Dimension
-    }
-}
 
 /// The fixed subspaces of the action on pairs, each once, or why they are not held. Condition: giving a
 /// row of the action is never wide.
@@ -49,7 +29,7 @@ pub(crate) fn closed<G: Acts<K24>, L: Ledger>(
     ensures { IfOk result (λ step. Answers (OrWide RefusesCoupledSubspaces AreWideCoupledSubspaces (coupled_in together.now (G.action acts.now))) (λ spaces. AreFewCoupled (coupled_in together.now (G.action acts.now)) (coupled_in together.now (G.action acts.now)) × AreClosed (G.action acts.now) spaces) step) }
 {
     let _order = together.quotient.order();
-    let limit = limit(together.format);
+    let limit = subspace_limit(together.format);
     match close(alloc, acts, limit as usize, steps) {
         Ok(spaces) => Ok(Step::Passed(spaces)),
         Err(CloseError::TooManySubspaces) => Ok(Step::Refused(Refusal::CoupledSubspaces(
@@ -75,7 +55,7 @@ pub(crate) fn directions<G: Acts<K24>, L: Ledger>(
     requires closed { AreClosed (G.action acts.now) spaces }
     ensures { IfOk result (λ step. Answers (OrWide RefusesNone AreWideCoupledClasses (coupled_in together.now (G.action acts.now))) (AreCoupledDirections (coupled_in together.now (G.action acts.now))) step) }
 {
-    match listing(alloc, acts, spaces, order(together.format), steps) {
+    match listing(alloc, acts, spaces, direction_order(together.format), steps) {
         Ok(listing) => Ok(Step::Passed(listing)),
         Err(ListError::WideStabiliser) => Ok(Step::Refused(Refusal::Wide(3))),
         Err(ListError::WideImage) => Ok(Step::Refused(Refusal::Wide(4))),

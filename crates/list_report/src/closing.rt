@@ -15,8 +15,8 @@ use report_steps::{Refusal, Step};
 use std::alloc::Global;
 use std::sync::ledger::Ledger;
 
-// How many fixed subspaces a file of this format may have.
-fn limit(format: u8) -> u32
+/// How many fixed subspaces a file of this format may have.
+pub fn subspace_limit(format: u8) -> u32
     ensures value { result ≡ limit_of format }
     ensures some { 0 < result }
     ensures few { result ≤ 16384 }
@@ -24,8 +24,8 @@ fn limit(format: u8) -> u32
     if format == 2 { 16384 } else { 4096 }
 }
 
-// How the directions of a file of this format are ordered.
-fn order(format: u8) -> Order
+/// How the directions of a file of this format are ordered.
+pub fn direction_order(format: u8) -> Order
     ensures { result ≡ order_by format }
 {
     if format == 2 {
@@ -45,7 +45,7 @@ pub fn closed<L: Ledger>(
     ensures { IfOk result (λ step. Answers (OrWide RefusesSubspaces AreWideSubspaces (formed_in formed.now)) (λ spaces. AreFew (formed_in formed.now) (formed_in formed.now) × AreClosed (action_of formed.now.form) spaces) step) }
 {
     let _order = formed.quotient.order();
-    let limit = limit(formed.format);
+    let limit = subspace_limit(formed.format);
     match close(alloc, &formed.form, limit as usize, steps) {
         Ok(spaces) => Ok(Step::Passed(spaces)),
         Err(CloseError::TooManySubspaces) => Ok(Step::Refused(Refusal::TooManySubspaces(
@@ -67,7 +67,13 @@ pub fn directions<L: Ledger>(
     requires { AreClosed (action_of formed.now.form) spaces }
     ensures { IfOk result (λ step. Answers (OrWide RefusesNone AreWideClasses (formed_in formed.now)) (AreDirections (formed_in formed.now)) step) }
 {
-    match listing(alloc, &formed.form, spaces, order(formed.format), steps) {
+    match listing(
+        alloc,
+        &formed.form,
+        spaces,
+        direction_order(formed.format),
+        steps,
+    ) {
         Ok(listing) => Ok(Step::Passed(listing)),
         Err(ListError::WideStabiliser) => Ok(Step::Refused(Refusal::Wide(3))),
         Err(ListError::WideImage) => Ok(Step::Refused(Refusal::Wide(4))),

@@ -20,7 +20,7 @@ mod stabiliser_text;
 mod sums;
 
 pub use choice::place_of;
-pub use closing::{closed, directions};
+pub use closing::{closed, direction_order, directions, subspace_limit};
 pub use laws::{law_of_kept_lines, law_of_list, law_of_listing_steps, law_of_report_pages};
 pub use listed::{FormedIrrep, ListedIrrep};
 pub use listing::list_found;

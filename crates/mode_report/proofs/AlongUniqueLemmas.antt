@@ -23,7 +23,7 @@ use Rattle.list_report.specs.Contexts.{Chosen, Formed, Listed}
 use Rattle.list_report.specs.RealForms.{RefusesForm, IsWideFormOf, IsFormed}
 use Rattle.list_report.specs.TwinLaws.{AreTwins}
 use Rattle.report_steps.specs.Contexts.{Divided}
-use Rattle.report_steps.specs.EachLaws.{each-same}
+use Rattle.report_steps.specs.EachLaws.{each-through, each-same}
 use Rattle.report_steps.specs.IrrepSteps.{Each}
 use Rattle.report_steps.specs.StepLaws.{IsSingleAt, FindsOneAt, After-single-at, IsSingleFor, FindsOneFor, After-single-for}
 use Rattle.report_steps.specs.Steps.{never}
@@ -34,7 +34,8 @@ use Rattle.mode_report.specs.DirectionModes.{RefusesDirection, IsDirection, AreR
 use Rattle.mode_report.specs.IrrepWeights.{AreWeightsOf}
 use Rattle.mode_report.specs.Told.{OrbitModes, count_text}
 use Rattle.mode_report.proofs.CauseLemmas.{refused-one, none-refused}
-use Rattle.mode_report.proofs.UniqueLemmas.{InduceOne, HaveOneOrbit, orbits-each, each-through, weights-one}
+use Rattle.mode_report.specs.OneWeightLaws.{InduceOne, HaveOneOrbit, weights-one}
+use Rattle.mode_report.proofs.UniqueLemmas.{orbits-each}
 
 -- the law of the modes of an irrep that elements leave
 abbrev pub HaveOneForm : Type 0

@@ -1,28 +1,18 @@
 -- What is told of the orbits of a file is one.
 use Rattle.std.proofs.Common.{◌≡◌, refl, sym, ap, ◌∙◌, subst, ◌⊎◌, inl, inr, ℕ, suc, ◌<◌, ◌≤◌, List, [], ◌∷◌, length, Some, slice_get, arith}
 use Rattle.cyclo24.specs.ExactK24.{Exact24, k24_laws}
-use Rattle.cyclo24.specs.ExactZ24.{z24_laws}
 use Rattle.iso_text.specs.declared.sections.AtomText.{AtomText}
 use Rattle.iso_text.specs.declared.sections.IrrepText.{IrrepText}
-use Rattle.kstar.specs.Star.{WaveStar}
-use Rattle.lin_alg.specs.Matrices.{trace}
-use Rattle.lin_alg.specs.SpanLaws.{funext}
-use Rattle.lin_alg.specs.TraceLaws.{trace-same}
 use Rattle.space_ops.specs.Op.{vector_of}
 use Rattle.super_group.specs.Quotient.{SupercellGroup, order_of}
-use Rattle.small_rep.specs.SmallRep.{Matrices}
-use Rattle.induce.specs.Induced.{dimension_of, induced_of, weight_of, weight_at}
 use Rattle.wyckoff.specs.AtomLines.{AreOrbitsOf}
 use Rattle.wyckoff.specs.Orbit.{OrbitView, IsOrbitOf}
 use Rattle.wyckoff.specs.OrbitLaws.{places-unique}
-use Rattle.mode_project.specs.AtomSpace.{AtomSpace, displacements}
 use Rattle.mode_project.specs.Modes.{AreModes}
 use Rattle.mode_project.specs.OneBasis.{AreAlike}
 use Rattle.report_steps.specs.Contexts.{Divided}
-use Rattle.report_steps.specs.EachLaws.{each-same}
-use Rattle.report_steps.specs.InducedLaws.{InduceTheSame}
+use Rattle.report_steps.specs.EachLaws.{each-through}
 use Rattle.report_steps.specs.IrrepSteps.{Each}
-use Rattle.report_steps.specs.Irreps.{IsRepresented}
 use Rattle.report_steps.specs.StepLaws.{IsSingleAt}
 use Rattle.mode_report.specs.AllModes.{IsToldOf, told_modes}
 use Rattle.mode_report.specs.Atoms.{RefusesAtoms}
@@ -30,20 +20,7 @@ use Rattle.mode_report.specs.IrrepWeights.{IsWeightOf, AreWeightsOf}
 use Rattle.mode_report.specs.ModesFound.{AreToldOf}
 use Rattle.mode_report.specs.Told.{OrbitModes, counts_text}
 use Rattle.mode_report.proofs.CauseLemmas.{refused-one, none-refused}
-
--- the law of the irreps of a file
-abbrev pub InduceOne : SupercellGroup → Type 0
-InduceOne q = (i : IrrepText) (s t : WaveStar) (g m : Matrices) → IsRepresented q.parent i s g → IsRepresented q.parent i t m → InduceTheSame q i s t g m
-
--- the law of the orbits of an atom
-abbrev pub HaveOneOrbit : SupercellGroup → Type 0
-HaveOneOrbit q = (atom : AtomText) (o u : OrbitView) → IsOrbitOf q atom o → IsOrbitOf q atom u → AreAlike (displacements q o) (displacements q u)
-
--- the law of modes
-abbrev pub HaveOneBasis : Type 0
-HaveOneBasis =
-    (s t : AtomSpace) (ws : List (ℕ → Exact24)) (ms ns : List (ℕ × (ℕ → Exact24))) (sites columns : List ℕ) → AreAlike s t → AreModes k24_laws s ws ms sites → AreModes k24_laws t ws ns columns
-    → (ms ≡ ns) × (sites ≡ columns)
+use Rattle.mode_report.specs.OneWeightLaws.{InduceOne, HaveOneOrbit, HaveOneBasis, weights-one}
 
 -- ---- lists
 
@@ -53,37 +30,6 @@ orbits-each q [] [] e f = tt
 orbits-each q [] (o ∷ orbits) e f = absurd (omega arith)
 orbits-each q (a ∷ atoms) [] e f = absurd (omega arith)
 orbits-each q (a ∷ atoms) (o ∷ orbits) e f = (f 0 a o refl refl, orbits-each q atoms orbits (omega arith) (λ n x y s t. f (suc n) x y s t))
-
-pub each-through : {A B C : Type 0} (R : A → B → Type 0) (S : B → C → Type 0) (xs : List A) (ys : List B) (zs : List C) → Each R xs ys → Each S ys zs → Each (λ x z. (y : B) × R x y × S y z) xs zs
-each-through R S [] [] [] h k = tt
-each-through R S [] [] (z ∷ zs) h k = k
-each-through R S [] (y ∷ ys) zs h k = absurd h
-each-through R S (x ∷ xs) [] zs h k = absurd h
-each-through R S (x ∷ xs) (y ∷ ys) [] h k = k
-each-through R S (x ∷ xs) (y ∷ ys) (z ∷ zs) h k = ((y, h.0, k.0), each-through R S xs ys zs h.1 k.1)
-
--- ---- weights
-
-module _ (q : SupercellGroup) (one : InduceOne q) where
-  weight-same : (i : IrrepText) (s t : WaveStar) (g m : Matrices) (e : ℕ) → IsRepresented q.parent i s g → IsRepresented q.parent i t m → weight_at q s i.size g e ≡ weight_at q t i.size m e
-  weight-same i s t g m e a b =
-      let h = one i s t g m a b in
-      ap weight_of
-      (trace-same z24_laws (dimension_of s i.size) (induced_of q s i.size g e) (induced_of q t i.size m e) (λ x y. h.entry e x y)
-      ∙ ap (λ n. trace z24_laws n (induced_of q t i.size m e)) h.dimension)
-
-  weight-one : (i : IrrepText) (w v : ℕ → Exact24) → IsWeightOf q i w → IsWeightOf q i v → w ≡ v
-  weight-one i w v (s, g, a) (t, m, b) = funext (λ e. at e (inside e))
-    where
-      inside : (e : ℕ) → (e < order_of q) ⊎ (order_of q ≤ e)
-      inside e = grind arith
-
-      at : (e : ℕ) → (e < order_of q) ⊎ (order_of q ≤ e) → w e ≡ v e
-      at e (inl l) = a.inside e l ∙ weight-same i s t g m e a.inducible.rep b.inducible.rep ∙ sym (b.inside e l)
-      at e (inr l) = a.past e l ∙ sym (b.past e l)
-
-  pub weights-one : (irreps : List IrrepText) (ws vs : List (ℕ → Exact24)) → AreWeightsOf q irreps ws → AreWeightsOf q irreps vs → ws ≡ vs
-  weights-one irreps ws vs = each-same (IsWeightOf q) irreps ws vs weight-one
 
 -- ---- what is told
 

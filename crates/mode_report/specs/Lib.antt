@@ -28,3 +28,5 @@ pub mod DirectionHeld
 pub mod NamedRows
 -- what is found for a direction, by the program's answer
 pub mod FoundAlong
+-- the weights of the irreps of a file are one, and what is known of orbits and modes
+pub mod OneWeightLaws

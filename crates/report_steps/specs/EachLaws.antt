@@ -3,6 +3,7 @@
 -- each-at: the items at one place; each-length: the lists have one length
 -- each-map: what is made of the items of the second list
 -- each-same: where the relation gives each item one other, one list gives one other
+-- each-through: two relations through a list between them
 use Rattle.std.proofs.Common.{◌≡◌, refl, ap, ℕ, zero, suc, ◌<◌, List, [], ◌∷◌, length, get_or, map, arith}
 use Rattle.report_steps.specs.IrrepSteps.{Each}
 
@@ -35,3 +36,12 @@ each-same R [] (y ∷ ys) zs f h k = absurd h
 each-same R (x ∷ xs) [] zs f h k = absurd h
 each-same R (x ∷ xs) (y ∷ ys) [] f h k = absurd k
 each-same R (x ∷ xs) (y ∷ ys) (z ∷ zs) f h k = (λ i. f x y z h.0 k.0 i ∷ each-same R xs ys zs f h.1 k.1 i)
+
+-- two relations through a list between them
+pub each-through : {A B C : Type 0} (R : A → B → Type 0) (S : B → C → Type 0) (xs : List A) (ys : List B) (zs : List C) → Each R xs ys → Each S ys zs → Each (λ x z. (y : B) × R x y × S y z) xs zs
+each-through R S [] [] [] h k = tt
+each-through R S [] [] (z ∷ zs) h k = k
+each-through R S [] (y ∷ ys) zs h k = absurd h
+each-through R S (x ∷ xs) [] zs h k = absurd h
+each-through R S (x ∷ xs) (y ∷ ys) [] h k = k
+each-through R S (x ∷ xs) (y ∷ ys) (z ∷ zs) h k = ((y, h.0, k.0), each-through R S xs ys zs h.1 k.1)

@@ -3,7 +3,7 @@ use Rattle.list_report.proofs.ClosingLemmas.{wide-stabilisers, wide-images, are-
 use Rattle.list_report.proofs.closing.directions.Goals as goal
 
 pub returns-in-Ok : goal.returns-in-Ok
-returns-in-Ok g c = are-directions c.args.formed.now c.order.result c.order.ensures c.in-Ok.listing c.in-Ok.ensures.listing c.in-Ok.ensures.forms
+returns-in-Ok g c = are-directions c.args.formed.now c.direction_order.result c.direction_order.ensures c.in-Ok.listing c.in-Ok.ensures.listing c.in-Ok.ensures.forms
 
 pub returns-in-Err-WideStabiliser : goal.returns-in-Err-WideStabiliser
 returns-in-Err-WideStabiliser g c = let e = c.in-Err-WideStabiliser in wide-stabilisers c.args.formed.now (e.ensures.wide_stabiliser (ap Err e.field-0-is))
