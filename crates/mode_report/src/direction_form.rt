@@ -12,7 +12,7 @@ use report_steps::InducedFile;
 use std::alloc::Global;
 
 /// The real form of the irrep at a place, with what the later steps use of the file.
-pub(crate) fn formed_of(
+pub fn formed_of(
     alloc: Global,
     file: &InducedFile,
     k: usize,

@@ -25,6 +25,7 @@ mod weights;
 pub use along::{ModesAlong, along_report};
 pub use atoms::orbits_of;
 pub use direction::modes_along;
+pub use direction_form::formed_of;
 pub use found::{FoundModes, modes_found, modes_text_of};
 pub use laws::{law_of_modes_along, law_of_modes_found};
 pub use orbit_modes::all_modes;
