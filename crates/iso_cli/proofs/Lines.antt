@@ -47,10 +47,10 @@ refused_answer job status.Usage bytes r out err l h g said = absurd said
 refused_answer job status.ReadFault bytes r out err l h g said = absurd said
 refused_answer job status.WriteFault bytes r out err l h g said = absurd said
 
-pub broken_answer : (job : Job) (s : Status) (bytes : List ℕ) (out err : Change) → s ≡ status.WriteFault → length bytes ≤ max_bytes → IsBrokenOff job bytes out → Says write_line err → Answers job bytes s out err
+pub broken_answer : (job : Job) (s : Status) (bytes : List ℕ) (out err : Change) → s ≡ status.WriteFault → length bytes ≤ max_bytes → IsBrokenOff (IsOutcome job bytes) out → Says write_line err → Answers job bytes s out err
 broken_answer job s bytes out err e l h said = subst (λ t. Answers job bytes t out err) (sym e) (l, h, said)
 
-pub stopped_answer : (job : Job) (s : Status) (bytes : List ℕ) (out err : Change) → s ≡ status.NoMemory → length bytes ≤ max_bytes → IsCutShort job bytes out → Says memory_line err → Answers job bytes s out err
+pub stopped_answer : (job : Job) (s : Status) (bytes : List ℕ) (out err : Change) → s ≡ status.NoMemory → length bytes ≤ max_bytes → IsCutShort (IsOutcome job bytes) out → Says memory_line err → Answers job bytes s out err
 stopped_answer job s bytes out err e l h said = subst (λ t. Answers job bytes t out err) (sym e) (inr (l, h), said)
 
 -- the answers of a source that could not be taken

@@ -9,7 +9,7 @@ use Rattle.std.specs.Prelude.{◌≢◌, ◌⊎◌, ℕ, ◌<◌, ◌≤◌, Lis
 use Rattle.iso_report.specs.declared.job.Job.{Job}
 use Rattle.report_steps.specs.declared.refusal.Refusal.{Refusal}
 use Rattle.report_steps.specs.declared.refusal.Refusal.TheVariants as refusal
-use Rattle.iso_report.specs.Endings.{Change, Grew, GrewByPrefix, HasFailed, RunIsDone, IsCutShort, IsBrokenOff}
+use Rattle.iso_report.specs.Endings.{Change, Grew, GrewByPrefix, HasFailed, IsDone, IsCutShort, IsBrokenOff}
 use Rattle.iso_report.specs.Outcome.{IsOutcome, refused}
 use Rattle.report_steps.specs.Report.{line_of}
 use Rattle.iso_text.specs.Lines.{line}
@@ -55,16 +55,16 @@ IsRefused job bytes err = ((max_bytes < length bytes) × Says too_long_line err)
 
 -- want of memory: nothing was written, or a prefix of the report of few enough bytes
 abbrev pub IsStopped : Job → List ℕ → Change → Type 0
-IsStopped job bytes out = Grew [] out ⊎ ((length bytes ≤ max_bytes) × IsCutShort job bytes out)
+IsStopped job bytes out = Grew [] out ⊎ ((length bytes ≤ max_bytes) × IsCutShort (IsOutcome job bytes) out)
 
 -- the answer to a job, by its status, over all the bytes that were left: where they are too many, it is
 -- the refusal of their length, a read fault or want of memory
 abbrev pub Answers : Job → List ℕ → Status → Change → Change → Type 0
-Answers job bytes status.Done out err = (length bytes ≤ max_bytes) × RunIsDone job bytes out × Grew [] err
+Answers job bytes status.Done out err = (length bytes ≤ max_bytes) × IsDone (IsOutcome job bytes) out × Grew [] err
 Answers job bytes status.Refused out err = Grew [] out × IsRefused job bytes err
 Answers job bytes status.Usage out err = ⊥
 Answers job bytes status.ReadFault out err = Grew [] out × Says read_line err
-Answers job bytes status.WriteFault out err = (length bytes ≤ max_bytes) × IsBrokenOff job bytes out × Says write_line err
+Answers job bytes status.WriteFault out err = (length bytes ≤ max_bytes) × IsBrokenOff (IsOutcome job bytes) out × Says write_line err
 Answers job bytes status.NoMemory out err = IsStopped job bytes out × Says memory_line err
 
 -- the answer where the words name no job: the usage line, and nothing on out

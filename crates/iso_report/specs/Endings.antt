@@ -1,16 +1,15 @@
--- How a run over a file's bytes ends, and what it then leaves.
+-- How work on a file ends that finds one of some findings, and what it then leaves on the sink of its report.
 --
 -- Change: a sink before and after a call; Grew, GrewByPrefix, HasFailed: what happened to it
--- RunIsDone job bytes out, RunFails job bytes out e: a run that is done, or failed
--- HasNoReport job bytes e: why there is no report to write
-use Rattle.std.specs.Prelude.{⊤, ◌⊎◌, ℕ, List, [], Option}
+-- IsDone next out, Fails next out e: the report of a finding is written, or not
+-- Ends next out result: the one or the other
+-- IsPut text out result: a text is written, or not
+use Rattle.std.specs.Prelude.{⊤, ◌⊎◌, ℕ, List, [], Option, Result, MatchResult}
 use Rattle.iso_text.specs.Counts.{HasRisen}
 use Rattle.iso_text.specs.Streams.{GrownBy, GrownByPrefix}
-use Rattle.iso_report.specs.declared.job.Job.{Job}
 use Rattle.iso_report.specs.declared.run_error.RunError.{RunError}
 use Rattle.iso_report.specs.declared.run_error.RunError.TheVariants as run_error
-use Rattle.report_steps.specs.Finding.{report, refused}
-use Rattle.iso_report.specs.Outcome.{IsOutcome}
+use Rattle.report_steps.specs.Finding.{Finding, report, refused}
 
 -- a sink before and after a call: its bytes, where it tells them, and its count of faults
 pub record Change : Type 0 where
@@ -33,25 +32,31 @@ abbrev pub HasFailed : Change → Type 0
 HasFailed s = HasRisen s.faults_old s.faults_new
 
 -- the report of the definitions, whole
-abbrev pub RunIsDone : Job → List ℕ → Change → Type 0
-RunIsDone job bytes out = (r : List ℕ) × IsOutcome job bytes (report r) × Grew r out
+abbrev pub IsDone : (Finding → Type 0) → Change → Type 0
+IsDone next out = (r : List ℕ) × next (report r) × Grew r out
 
 -- want of memory: nothing was written, or a prefix of the report
-abbrev pub IsCutShort : Job → List ℕ → Change → Type 0
-IsCutShort job bytes out = Grew [] out ⊎ ((r : List ℕ) × IsOutcome job bytes (report r) × GrewByPrefix r out)
+abbrev pub IsCutShort : (Finding → Type 0) → Change → Type 0
+IsCutShort next out = Grew [] out ⊎ ((r : List ℕ) × next (report r) × GrewByPrefix r out)
 
 -- a write failed: a prefix of the report was written
-abbrev pub IsBrokenOff : Job → List ℕ → Change → Type 0
-IsBrokenOff job bytes out = (r : List ℕ) × IsOutcome job bytes (report r) × GrewByPrefix r out × HasFailed out
+abbrev pub IsBrokenOff : (Finding → Type 0) → Change → Type 0
+IsBrokenOff next out = (r : List ℕ) × next (report r) × GrewByPrefix r out × HasFailed out
 
--- how a run may fail
-abbrev pub RunFails : Job → List ℕ → Change → RunError → Type 0
-RunFails job bytes out (run_error.Refused r) = IsOutcome job bytes (refused r) × Grew [] out
-RunFails job bytes out run_error.WriteFault = IsBrokenOff job bytes out
-RunFails job bytes out run_error.NoMemory = IsCutShort job bytes out
+-- how the work may fail
+abbrev pub Fails : (Finding → Type 0) → Change → RunError → Type 0
+Fails next out (run_error.Refused r) = next (refused r) × Grew [] out
+Fails next out run_error.WriteFault = IsBrokenOff next out
+Fails next out run_error.NoMemory = IsCutShort next out
 
--- a refusal, or want of memory
-abbrev pub HasNoReport : Job → List ℕ → RunError → Type 0
-HasNoReport job bytes (run_error.Refused r) = IsOutcome job bytes (refused r)
-HasNoReport job bytes run_error.WriteFault = ⊥
-HasNoReport job bytes run_error.NoMemory = ⊤
+abbrev pub Ends : {A : Type 0} → (Finding → Type 0) → Change → Result A RunError → Type 0
+Ends next out result = MatchResult result (λ _. IsDone next out) (Fails next out)
+
+-- why a text was not written whole
+abbrev pub FailsToPut : List ℕ → Change → RunError → Type 0
+FailsToPut text out (run_error.Refused r) = ⊥
+FailsToPut text out run_error.WriteFault = GrewByPrefix text out × HasFailed out
+FailsToPut text out run_error.NoMemory = GrewByPrefix text out
+
+abbrev pub IsPut : {A : Type 0} → List ℕ → Change → Result A RunError → Type 0
+IsPut text out result = MatchResult result (λ _. Grew text out) (FailsToPut text out)

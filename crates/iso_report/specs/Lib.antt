@@ -8,7 +8,5 @@ pub mod Check
 pub mod Outcome
 -- what the definition of an outcome settles, for any file's bytes
 pub mod OutcomeLaws
--- how a run over a file's bytes ends, and what it then leaves
+-- how work on a file ends, and what it then leaves
 pub mod Endings
--- what the program has found, as the definitions name it
-pub mod Found

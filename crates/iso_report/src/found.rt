@@ -1,7 +1,7 @@
-// What is found for a file's bytes, as the text of its report.
-ghost use Rattle.std.specs.Prelude.{IfOk};
+// What is found for a file's bytes, written where it is found.
+ghost use Rattle.std.specs.Prelude.{◌≡◌, ◌≤◌, IfOk, IsErrOf, Ok, List, ℕ};
 ghost use Rattle.iso_text.specs.Ranges.{IsInRange};
-ghost use Rattle.iso_report.specs.Found.{Finds};
+ghost use Rattle.iso_report.specs.Endings.{Ends, IsPut, change};
 ghost use Rattle.iso_report.specs.Outcome.{IsChecked};
 ghost use Rattle.report_steps.specs.HeldFiles.{AreInducedHeld};
 ghost use Rattle.list_report.specs.Listings.{IsListFound};
@@ -13,148 +13,173 @@ ghost use Rattle.couple_report.specs.LinkFound.{IsLinkFound};
 ghost use Rattle.apart_report.specs.ApartFound.{AreApartFound};
 
 use crate::check::check_report;
+use crate::run_error::RunError;
 use amp_report::{amps_found, amps_report};
 use apart_report::{apart_found, apart_report};
 use couple_report::{couple_found, couple_report, link_found, link_report};
-use iso_text::{Name, NoMemory, Text};
+use iso_text::{Name, NoMemory, Sink, Text, put_all};
 use list_report::{list_found, listed_text};
 use mode_report::{along_report, modes_along, modes_found, modes_text_of};
-use report_steps::{InducedFile, Step};
+use report_steps::{InducedFile, Refusal, Step};
 use std::alloc::Global;
 
-/// The parent group, its quotient and the irreps.
-pub fn found_checked(alloc: Global, file: InducedFile) -> Result<Step<Text>, NoMemory>
-    requires { AreInducedHeld file }
-    ensures { IfOk result (Finds (IsChecked file.divided)) }
+// Writes a text, where there was memory for it.
+fn put_text<O: Sink>(text: Result<Text, NoMemory>, out: &mut O) -> Result<(), RunError>
+    ensures answer { (t : List ℕ) → IfOk text (λ x. x ≡ t) → IsPut t (change (O.written out.old) (O.written out.new) (O.faults out.old) (O.faults out.new)) result }
+    ensures untouched { (r : Refusal) → IsErrOf result (RunError.Refused r) → out.new ≡ out.old }
+    ensures faults { O.faults out.old ≤ O.faults out.new }
 {
-    let text = check_report(alloc, &file)?;
-    Ok(Step::Passed(text))
+    let Ok(text) = text else {
+        return Err(RunError::NoMemory);
+    };
+    match put_all(out, text.as_slice()) {
+        Ok(()) => Ok(()),
+        Err(_) => Err(RunError::WriteFault),
+    }
 }
 
-/// The listing of the irrep of a name, or of the first of the file where none is named; or why there
-/// is none.
-pub fn found_listing(
+/// Writes the parent group, its quotient and the irreps.
+pub fn found_checked<O: Sink>(alloc: Global, file: InducedFile, out: &mut O) -> Result<(), RunError>
+    requires { AreInducedHeld file }
+    ensures answer { Ends (IsChecked file.divided) (change (O.written out.old) (O.written out.new) (O.faults out.old) (O.faults out.new)) result }
+    ensures untouched { (r : Refusal) → IsErrOf result (RunError.Refused r) → out.new ≡ out.old }
+    ensures faults { O.faults out.old ≤ O.faults out.new }
+{
+    put_text(check_report(alloc, &file), out)
+}
+
+/// Writes the listing of the irrep of a name, or of the first of the file where none is named; or says
+/// why there is none.
+pub fn found_listing<O: Sink>(
     alloc: Global,
     file: InducedFile,
     wanted: Option<Name>,
     after: u64,
     count: Option<u64>,
-) -> Result<Step<Text>, NoMemory>
+    out: &mut O,
+) -> Result<(), RunError>
     requires { AreInducedHeld file }
-    ensures { IfOk result (Finds (IsListFound wanted after count file.divided)) }
+    ensures answer { Ends (IsListFound wanted after count file.divided) (change (O.written out.old) (O.written out.new) (O.faults out.old) (O.faults out.new)) result }
+    ensures untouched { (r : Refusal) → IsErrOf result (RunError.Refused r) → out.new ≡ out.old }
+    ensures faults { O.faults out.old ≤ O.faults out.new }
 {
-    match list_found(alloc, file, wanted, after, count)? {
-        Step::Passed(listed) => {
-            let text = listed_text(alloc, &listed)?;
-            Ok(Step::Passed(text))
-        }
-        Step::Refused(refusal) => Ok(Step::Refused(refusal)),
+    match list_found(alloc, file, wanted, after, count) {
+        Ok(Step::Passed(listed)) => put_text(listed_text(alloc, &listed), out),
+        Ok(Step::Refused(refusal)) => Err(RunError::Refused(refusal)),
+        Err(_) => Err(RunError::NoMemory),
     }
 }
 
-/// The modes of the orbits of the atoms of the file, or why there are none.
-pub fn found_modes(alloc: Global, file: InducedFile) -> Result<Step<Text>, NoMemory>
+/// Writes the modes of the orbits of the atoms of the file, or says why there are none.
+pub fn found_modes<O: Sink>(alloc: Global, file: InducedFile, out: &mut O) -> Result<(), RunError>
     requires held { AreInducedHeld file }
     requires ranged { IsInRange file.divided.file }
-    ensures { IfOk result (Finds (AreModesFound file.divided)) }
+    ensures answer { Ends (AreModesFound file.divided) (change (O.written out.old) (O.written out.new) (O.faults out.old) (O.faults out.new)) result }
+    ensures untouched { (r : Refusal) → IsErrOf result (RunError.Refused r) → out.new ≡ out.old }
+    ensures faults { O.faults out.old ≤ O.faults out.new }
 {
-    match modes_found(alloc, &file)? {
-        Step::Passed(modes) => {
-            let text = modes_text_of(alloc, &file, &modes)?;
-            Ok(Step::Passed(text))
-        }
-        Step::Refused(refusal) => Ok(Step::Refused(refusal)),
+    match modes_found(alloc, &file) {
+        Ok(Step::Passed(modes)) => put_text(modes_text_of(alloc, &file, &modes), out),
+        Ok(Step::Refused(refusal)) => Err(RunError::Refused(refusal)),
+        Err(_) => Err(RunError::NoMemory),
     }
 }
 
-/// The modes that the direction of this number, from 1, of the irrep of a name allows, or of the first
-/// of the file where none is named; or why there are none.
-pub fn found_along(
+/// Writes the modes that the direction of this number, from 1, of the irrep of a name allows, or of the
+/// first of the file where none is named; or says why there are none.
+pub fn found_along<O: Sink>(
     alloc: Global,
     file: InducedFile,
     wanted: Option<Name>,
     number: u64,
-) -> Result<Step<Text>, NoMemory>
+    out: &mut O,
+) -> Result<(), RunError>
     requires held { AreInducedHeld file }
     requires ranged { IsInRange file.divided.file }
-    ensures { IfOk result (Finds (IsFoundAlong wanted number file.divided)) }
+    ensures answer { Ends (IsFoundAlong wanted number file.divided) (change (O.written out.old) (O.written out.new) (O.faults out.old) (O.faults out.new)) result }
+    ensures untouched { (r : Refusal) → IsErrOf result (RunError.Refused r) → out.new ≡ out.old }
+    ensures faults { O.faults out.old ≤ O.faults out.new }
 {
-    match modes_along(alloc, file, wanted, number)? {
-        Step::Passed(along) => {
-            let text = along_report(alloc, &along)?;
-            Ok(Step::Passed(text))
-        }
-        Step::Refused(refusal) => Ok(Step::Refused(refusal)),
+    match modes_along(alloc, file, wanted, number) {
+        Ok(Step::Passed(along)) => put_text(along_report(alloc, &along), out),
+        Ok(Step::Refused(refusal)) => Err(RunError::Refused(refusal)),
+        Err(_) => Err(RunError::NoMemory),
     }
 }
 
-/// The amplitudes of the modes in the listed structure, or why there are none.
-pub fn found_amplitudes(alloc: Global, file: InducedFile) -> Result<Step<Text>, NoMemory>
+/// Writes the amplitudes of the modes in the listed structure, or says why there are none.
+pub fn found_amplitudes<O: Sink>(
+    alloc: Global,
+    file: InducedFile,
+    out: &mut O,
+) -> Result<(), RunError>
     requires held { AreInducedHeld file }
     requires ranged { IsInRange file.divided.file }
-    ensures { IfOk result (Finds (AreAmpsFound file.divided)) }
+    ensures answer { Ends (AreAmpsFound file.divided) (change (O.written out.old) (O.written out.new) (O.faults out.old) (O.faults out.new)) result }
+    ensures untouched { (r : Refusal) → IsErrOf result (RunError.Refused r) → out.new ≡ out.old }
+    ensures faults { O.faults out.old ≤ O.faults out.new }
 {
-    match amps_found(alloc, file)? {
-        Step::Passed(amplitudes) => {
-            let text = amps_report(alloc, &amplitudes)?;
-            Ok(Step::Passed(text))
-        }
-        Step::Refused(refusal) => Ok(Step::Refused(refusal)),
+    match amps_found(alloc, file) {
+        Ok(Step::Passed(amplitudes)) => put_text(amps_report(alloc, &amplitudes), out),
+        Ok(Step::Refused(refusal)) => Err(RunError::Refused(refusal)),
+        Err(_) => Err(RunError::NoMemory),
     }
 }
 
-/// The listing of two irreps together, the first by its name or the first of the file; or why there is
-/// none.
-pub fn found_couple(
+/// Writes the listing of two irreps together, the first by its name or the first of the file; or says why
+/// there is none.
+pub fn found_couple<O: Sink>(
     alloc: Global,
     file: InducedFile,
     wanted: Option<Name>,
     other: Name,
     after: u64,
     count: Option<u64>,
-) -> Result<Step<Text>, NoMemory>
+    out: &mut O,
+) -> Result<(), RunError>
     requires { AreInducedHeld file }
-    ensures { IfOk result (Finds (IsCoupleFound wanted other after count file.divided)) }
+    ensures answer { Ends (IsCoupleFound wanted other after count file.divided) (change (O.written out.old) (O.written out.new) (O.faults out.old) (O.faults out.new)) result }
+    ensures untouched { (r : Refusal) → IsErrOf result (RunError.Refused r) → out.new ≡ out.old }
+    ensures faults { O.faults out.old ≤ O.faults out.new }
 {
-    match couple_found(alloc, file, wanted, other, after, count)? {
-        Step::Passed(coupled) => {
-            let text = couple_report(alloc, &coupled)?;
-            Ok(Step::Passed(text))
-        }
-        Step::Refused(refusal) => Ok(Step::Refused(refusal)),
+    match couple_found(alloc, file, wanted, other, after, count) {
+        Ok(Step::Passed(coupled)) => put_text(couple_report(alloc, &coupled), out),
+        Ok(Step::Refused(refusal)) => Err(RunError::Refused(refusal)),
+        Err(_) => Err(RunError::NoMemory),
     }
 }
 
-/// The link between two irreps, the first by its name or the first of the file; or why none was looked
-/// for.
-pub fn found_link(
+/// Writes the link between two irreps, the first by its name or the first of the file; or says why none
+/// was looked for.
+pub fn found_link<O: Sink>(
     alloc: Global,
     file: InducedFile,
     wanted: Option<Name>,
     other: Name,
-) -> Result<Step<Text>, NoMemory>
+    out: &mut O,
+) -> Result<(), RunError>
     requires { AreInducedHeld file }
-    ensures { IfOk result (Finds (IsLinkFound wanted other file.divided)) }
+    ensures answer { Ends (IsLinkFound wanted other file.divided) (change (O.written out.old) (O.written out.new) (O.faults out.old) (O.faults out.new)) result }
+    ensures untouched { (r : Refusal) → IsErrOf result (RunError.Refused r) → out.new ≡ out.old }
+    ensures faults { O.faults out.old ≤ O.faults out.new }
 {
-    match link_found(alloc, file, wanted, other)? {
-        Step::Passed(linked) => {
-            let text = link_report(alloc, &linked)?;
-            Ok(Step::Passed(text))
-        }
-        Step::Refused(refusal) => Ok(Step::Refused(refusal)),
+    match link_found(alloc, file, wanted, other) {
+        Ok(Step::Passed(linked)) => put_text(link_report(alloc, &linked), out),
+        Ok(Step::Refused(refusal)) => Err(RunError::Refused(refusal)),
+        Err(_) => Err(RunError::NoMemory),
     }
 }
 
-/// Which irreps of the file are apart.
-pub fn found_apart(alloc: Global, file: InducedFile) -> Result<Step<Text>, NoMemory>
+/// Writes which irreps of the file are apart.
+pub fn found_apart<O: Sink>(alloc: Global, file: InducedFile, out: &mut O) -> Result<(), RunError>
     requires { AreInducedHeld file }
-    ensures { IfOk result (Finds (AreApartFound file.divided)) }
+    ensures answer { Ends (AreApartFound file.divided) (change (O.written out.old) (O.written out.new) (O.faults out.old) (O.faults out.new)) result }
+    ensures untouched { (r : Refusal) → IsErrOf result (RunError.Refused r) → out.new ≡ out.old }
+    ensures faults { O.faults out.old ≤ O.faults out.new }
 {
-    match apart_found(alloc, file)? {
-        Step::Passed(pairs) => {
-            let text = apart_report(alloc, &pairs)?;
-            Ok(Step::Passed(text))
-        }
-        Step::Refused(refusal) => Ok(Step::Refused(refusal)),
+    match apart_found(alloc, file) {
+        Ok(Step::Passed(pairs)) => put_text(apart_report(alloc, &pairs), out),
+        Ok(Step::Refused(refusal)) => Err(RunError::Refused(refusal)),
+        Err(_) => Err(RunError::NoMemory),
     }
 }

@@ -1,10 +1,16 @@
-use Rattle.amp_report.specs.FoundAmps.{AreAmpsHeld, amps_of}
+use Rattle.amp_report.specs.FoundAmps.{amps_of}
 use Rattle.amp_report.specs.AmpsFound.{AreAmpsFound}
-use Rattle.iso_report.proofs.FoundLemmas.{text-found}
+use Rattle.iso_report.proofs.EndingLemmas.{grown_by_nothing, ends-put}
 use Rattle.iso_report.proofs.found.found_amplitudes.Goals as goal
 
-pub returns-in-Passed : goal.returns-in-Passed
-returns-in-Passed c = text-found (AreAmpsFound c.args.file.divided) amps_of AreAmpsHeld c.in-Passed.amplitudes c.in-Passed.text (rw c.in-Passed.is at c.in_ok-amplitudes.ensures) c.in-Passed.in_ok-text.ensures
+pub amps_report-requires : goal.amps_report-requires
+amps_report-requires g c = (rw c.in-Ok-Passed.field-0-is at c.in-Ok-Passed.ensures).1
 
-pub returns-in-Refused : goal.returns-in-Refused
-returns-in-Refused c = rw c.in-Refused.is at c.in_ok-amplitudes.ensures
+pub returns-in-Ok-Passed-clause-answer : goal.returns-in-Ok-Passed-clause-answer
+returns-in-Ok-Passed-clause-answer g c =
+    let found = (rw c.in-Ok-Passed.field-0-is at c.in-Ok-Passed.ensures).0 in
+    let text = amps_of c.in-Ok-Passed.amplitudes in
+    ends-put (AreAmpsFound c.args.file.divided) text _ c.put_text.result found (c.put_text.ensures.answer text c.amps_report.ensures)
+
+pub returns-in-Ok-Refused-clause-answer : goal.returns-in-Ok-Refused-clause-answer
+returns-in-Ok-Refused-clause-answer g c = ((rw c.in-Ok-Refused.field-0-is at c.in-Ok-Refused.ensures).0, grown_by_nothing (g.O.Sink.written c.args.out.now))

@@ -1,10 +1,16 @@
-use Rattle.couple_report.specs.FoundCouple.{IsCoupleHeld, couple_of}
+use Rattle.couple_report.specs.FoundCouple.{couple_of}
 use Rattle.couple_report.specs.CoupleFound.{IsCoupleFound}
-use Rattle.iso_report.proofs.FoundLemmas.{text-found}
+use Rattle.iso_report.proofs.EndingLemmas.{grown_by_nothing, ends-put}
 use Rattle.iso_report.proofs.found.found_couple.Goals as goal
 
-pub returns-in-Passed : goal.returns-in-Passed
-returns-in-Passed c = text-found (IsCoupleFound c.args.wanted c.args.other c.args.after c.args.count c.args.file.divided) couple_of IsCoupleHeld c.in-Passed.coupled c.in-Passed.text (rw c.in-Passed.is at c.in_ok-coupled.ensures) c.in-Passed.in_ok-text.ensures
+pub couple_report-requires : goal.couple_report-requires
+couple_report-requires g c = (rw c.in-Ok-Passed.field-0-is at c.in-Ok-Passed.ensures).1
 
-pub returns-in-Refused : goal.returns-in-Refused
-returns-in-Refused c = rw c.in-Refused.is at c.in_ok-coupled.ensures
+pub returns-in-Ok-Passed-clause-answer : goal.returns-in-Ok-Passed-clause-answer
+returns-in-Ok-Passed-clause-answer g c =
+    let found = (rw c.in-Ok-Passed.field-0-is at c.in-Ok-Passed.ensures).0 in
+    let text = couple_of c.in-Ok-Passed.coupled in
+    ends-put (IsCoupleFound c.args.wanted c.args.other c.args.after c.args.count c.args.file.divided) text _ c.put_text.result found (c.put_text.ensures.answer text c.couple_report.ensures)
+
+pub returns-in-Ok-Refused-clause-answer : goal.returns-in-Ok-Refused-clause-answer
+returns-in-Ok-Refused-clause-answer g c = ((rw c.in-Ok-Refused.field-0-is at c.in-Ok-Refused.ensures).0, grown_by_nothing (g.O.Sink.written c.args.out.now))

@@ -1,10 +1,16 @@
-use Rattle.couple_report.specs.FoundLink.{IsLinkHeld, link_of}
+use Rattle.couple_report.specs.FoundLink.{link_of}
 use Rattle.couple_report.specs.LinkFound.{IsLinkFound}
-use Rattle.iso_report.proofs.FoundLemmas.{text-found}
+use Rattle.iso_report.proofs.EndingLemmas.{grown_by_nothing, ends-put}
 use Rattle.iso_report.proofs.found.found_link.Goals as goal
 
-pub returns-in-Passed : goal.returns-in-Passed
-returns-in-Passed c = text-found (IsLinkFound c.args.wanted c.args.other c.args.file.divided) link_of IsLinkHeld c.in-Passed.linked c.in-Passed.text (rw c.in-Passed.is at c.in_ok-linked.ensures) c.in-Passed.in_ok-text.ensures
+pub link_report-requires : goal.link_report-requires
+link_report-requires g c = (rw c.in-Ok-Passed.field-0-is at c.in-Ok-Passed.ensures).1
 
-pub returns-in-Refused : goal.returns-in-Refused
-returns-in-Refused c = rw c.in-Refused.is at c.in_ok-linked.ensures
+pub returns-in-Ok-Passed-clause-answer : goal.returns-in-Ok-Passed-clause-answer
+returns-in-Ok-Passed-clause-answer g c =
+    let found = (rw c.in-Ok-Passed.field-0-is at c.in-Ok-Passed.ensures).0 in
+    let text = link_of c.in-Ok-Passed.linked in
+    ends-put (IsLinkFound c.args.wanted c.args.other c.args.file.divided) text _ c.put_text.result found (c.put_text.ensures.answer text c.link_report.ensures)
+
+pub returns-in-Ok-Refused-clause-answer : goal.returns-in-Ok-Refused-clause-answer
+returns-in-Ok-Refused-clause-answer g c = ((rw c.in-Ok-Refused.field-0-is at c.in-Ok-Refused.ensures).0, grown_by_nothing (g.O.Sink.written c.args.out.now))

@@ -4,22 +4,21 @@ use Rattle.report_steps.specs.Contexts.{Parented}
 use Rattle.iso_report.specs.Outcome.{AfterPhases}
 use Rattle.report_steps.specs.Stages.{RefusesPhases, HavePhases}
 use Rattle.report_steps.specs.Steps.{never}
-use Rattle.iso_report.specs.Found.{itself, IsWritable}
-use Rattle.report_steps.specs.FindingLaws.{found-refused, found-next}
+use Rattle.iso_report.proofs.EndingLemmas.{grown_by_nothing, step-refused, step-ends}
 use Rattle.iso_report.proofs.outcome.after_parent.Goals as goal
 
 pub after_phases-requires-clause-held : goal.after_phases-requires-clause-held
-after_phases-requires-clause-held c = (rw c.in-Passed.is at c.in_ok-starred.ensures).1
+after_phases-requires-clause-held g c = (rw c.in-Ok-Passed.field-0-is at c.in-Ok-Passed.ensures).1
 
 pub after_phases-requires-clause-ranged : goal.after_phases-requires-clause-ranged
-after_phases-requires-clause-ranged c =
-    let passed = rw c.in-Passed.is at c.in_ok-starred.ensures in
+after_phases-requires-clause-ranged g c =
+    let passed = rw c.in-Ok-Passed.field-0-is at c.in-Ok-Passed.ensures in
     subst (λ (p : Parented). IsInRange p.file) (sym passed.0.1) c.requires.held
 
-pub returns-in-Passed : goal.returns-in-Passed
-returns-in-Passed c =
-    let passed = rw c.in-Passed.is at c.in_ok-starred.ensures in
-    found-next itself IsWritable RefusesPhases never HavePhases (AfterPhases c.args.job.now) c.args.parented c.in-Passed.starred.parented passed.0 c.after_phases.result c.after_phases.ensures
+pub returns-in-Ok-Passed-clause-answer : goal.returns-in-Ok-Passed-clause-answer
+returns-in-Ok-Passed-clause-answer g c =
+    let passed = rw c.in-Ok-Passed.field-0-is at c.in-Ok-Passed.ensures in
+    step-ends RefusesPhases never HavePhases (AfterPhases c.args.job.now) c.args.parented c.in-Ok-Passed.starred.parented passed.0 _ c.after_phases.result c.after_phases.ensures.answer
 
-pub returns-in-Refused : goal.returns-in-Refused
-returns-in-Refused c = found-refused itself IsWritable RefusesPhases never HavePhases (AfterPhases c.args.job.now) c.args.parented c.in-Refused.refusal (rw c.in-Refused.is at c.in_ok-starred.ensures)
+pub returns-in-Ok-Refused-clause-answer : goal.returns-in-Ok-Refused-clause-answer
+returns-in-Ok-Refused-clause-answer g c = (step-refused RefusesPhases never HavePhases (AfterPhases c.args.job.now) c.args.parented c.in-Ok-Refused.refusal (rw c.in-Ok-Refused.field-0-is at c.in-Ok-Refused.ensures), grown_by_nothing (g.O.Sink.written c.args.out.now))

@@ -3,22 +3,21 @@ use Rattle.iso_text.specs.Ranges.{IsInRange}
 use Rattle.iso_report.specs.Outcome.{AfterOrder}
 use Rattle.report_steps.specs.Stages.{RefusesOrder, IsDivided}
 use Rattle.report_steps.specs.Steps.{never}
-use Rattle.iso_report.specs.Found.{itself, IsWritable}
-use Rattle.report_steps.specs.FindingLaws.{found-refused, found-next}
+use Rattle.iso_report.proofs.EndingLemmas.{grown_by_nothing, step-refused, step-ends}
 use Rattle.iso_report.proofs.outcome.after_phases.Goals as goal
 
 pub after_order-requires-clause-held : goal.after_order-requires-clause-held
-after_order-requires-clause-held c = (rw c.in-Passed.is at c.in_ok-celled.ensures).1
+after_order-requires-clause-held g c = (rw c.in-Ok-Passed.field-0-is at c.in-Ok-Passed.ensures).1
 
 pub after_order-requires-clause-ranged : goal.after_order-requires-clause-ranged
-after_order-requires-clause-ranged c =
-    let passed = rw c.in-Passed.is at c.in_ok-celled.ensures in
+after_order-requires-clause-ranged g c =
+    let passed = rw c.in-Ok-Passed.field-0-is at c.in-Ok-Passed.ensures in
     subst IsInRange (sym passed.0.file_is) c.requires.ranged
 
-pub returns-in-Passed : goal.returns-in-Passed
-returns-in-Passed c =
-    let passed = rw c.in-Passed.is at c.in_ok-celled.ensures in
-    found-next itself IsWritable RefusesOrder never IsDivided (AfterOrder c.args.job.now) c.args.starred.parented c.in-Passed.celled.divided passed.0 c.after_order.result c.after_order.ensures
+pub returns-in-Ok-Passed-clause-answer : goal.returns-in-Ok-Passed-clause-answer
+returns-in-Ok-Passed-clause-answer g c =
+    let passed = rw c.in-Ok-Passed.field-0-is at c.in-Ok-Passed.ensures in
+    step-ends RefusesOrder never IsDivided (AfterOrder c.args.job.now) c.args.starred.parented c.in-Ok-Passed.celled.divided passed.0 _ c.after_order.result c.after_order.ensures.answer
 
-pub returns-in-Refused : goal.returns-in-Refused
-returns-in-Refused c = found-refused itself IsWritable RefusesOrder never IsDivided (AfterOrder c.args.job.now) c.args.starred.parented c.in-Refused.refusal (rw c.in-Refused.is at c.in_ok-celled.ensures)
+pub returns-in-Ok-Refused-clause-answer : goal.returns-in-Ok-Refused-clause-answer
+returns-in-Ok-Refused-clause-answer g c = (step-refused RefusesOrder never IsDivided (AfterOrder c.args.job.now) c.args.starred.parented c.in-Ok-Refused.refusal (rw c.in-Ok-Refused.field-0-is at c.in-Ok-Refused.ensures), grown_by_nothing (g.O.Sink.written c.args.out.now))

@@ -3,23 +3,22 @@ use Rattle.iso_text.specs.Ranges.{IsInRange}
 use Rattle.report_steps.specs.Contexts.{Divided}
 use Rattle.iso_report.specs.Outcome.{IsFound}
 use Rattle.report_steps.specs.Stages.{RefusesDimensions, AreWideInduced, HaveInduced}
-use Rattle.iso_report.specs.Found.{itself, IsWritable}
-use Rattle.report_steps.specs.FindingLaws.{found-wide, found-next}
+use Rattle.iso_report.proofs.EndingLemmas.{grown_by_nothing, step-wide, step-ends}
 use Rattle.iso_report.proofs.outcome.after_reps.Goals as goal
 
 pub after_induced-requires-clause-held : goal.after_induced-requires-clause-held
-after_induced-requires-clause-held c = (rw c.in-Passed.is at c.in_ok-file.ensures).1
+after_induced-requires-clause-held g c = (rw c.in-Ok-Passed.field-0-is at c.in-Ok-Passed.ensures).1
 
 pub after_induced-requires-clause-ranged : goal.after_induced-requires-clause-ranged
-after_induced-requires-clause-ranged c =
-    let passed = rw c.in-Passed.is at c.in_ok-file.ensures in
+after_induced-requires-clause-ranged g c =
+    let passed = rw c.in-Ok-Passed.field-0-is at c.in-Ok-Passed.ensures in
     subst (λ (d : Divided). IsInRange d.file) (sym passed.0.1) c.requires.ranged
 
-pub returns-in-Passed : goal.returns-in-Passed
-returns-in-Passed c =
-    let passed = rw c.in-Passed.is at c.in_ok-file.ensures in
-    found-next itself IsWritable RefusesDimensions AreWideInduced HaveInduced (IsFound c.args.job.now) c.args.represented.divided c.in-Passed.file.divided passed.0 c.after_induced.result c.after_induced.ensures
+pub returns-in-Ok-Passed-clause-answer : goal.returns-in-Ok-Passed-clause-answer
+returns-in-Ok-Passed-clause-answer g c =
+    let passed = rw c.in-Ok-Passed.field-0-is at c.in-Ok-Passed.ensures in
+    step-ends RefusesDimensions AreWideInduced HaveInduced (IsFound c.args.job.now) c.args.represented.divided c.in-Ok-Passed.file.divided passed.0 _ c.after_induced.result c.after_induced.ensures.answer
 
-pub returns-in-Refused : goal.returns-in-Refused
-returns-in-Refused c =
-    found-wide itself IsWritable RefusesDimensions AreWideInduced HaveInduced (IsFound c.args.job.now) c.args.represented.divided c.in-Refused.refusal (rw c.in-Refused.is at c.in_ok-file.ensures)
+pub returns-in-Ok-Refused-clause-answer : goal.returns-in-Ok-Refused-clause-answer
+returns-in-Ok-Refused-clause-answer g c =
+    (step-wide RefusesDimensions AreWideInduced HaveInduced (IsFound c.args.job.now) c.args.represented.divided c.in-Ok-Refused.refusal (rw c.in-Ok-Refused.field-0-is at c.in-Ok-Refused.ensures), grown_by_nothing (g.O.Sink.written c.args.out.now))

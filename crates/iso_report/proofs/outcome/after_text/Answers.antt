@@ -3,19 +3,18 @@ use Rattle.iso_text.specs.Ranges.{IsInRange}
 use Rattle.iso_report.specs.Outcome.{AfterParent}
 use Rattle.report_steps.specs.Stages.{RefusesParent, IsParented}
 use Rattle.report_steps.specs.Steps.{never}
-use Rattle.iso_report.specs.Found.{itself, IsWritable}
-use Rattle.report_steps.specs.FindingLaws.{found-refused, found-next}
+use Rattle.iso_report.proofs.EndingLemmas.{grown_by_nothing, step-refused, step-ends}
 use Rattle.iso_report.proofs.outcome.after_text.Goals as goal
 
 pub after_parent-requires-clause-held : goal.after_parent-requires-clause-held
-after_parent-requires-clause-held c =
-    let passed = rw c.in-Passed.is at c.in_ok-parented.ensures in
+after_parent-requires-clause-held g c =
+    let passed = rw c.in-Ok-Passed.field-0-is at c.in-Ok-Passed.ensures in
     subst IsInRange (sym passed.4) c.requires.held
 
-pub returns-in-Passed : goal.returns-in-Passed
-returns-in-Passed c =
-    let passed = rw c.in-Passed.is at c.in_ok-parented.ensures in
-    found-next itself IsWritable RefusesParent never IsParented (AfterParent c.args.job.now) c.args.document c.in-Passed.parented passed c.after_parent.result c.after_parent.ensures
+pub returns-in-Ok-Passed-clause-answer : goal.returns-in-Ok-Passed-clause-answer
+returns-in-Ok-Passed-clause-answer g c =
+    let passed = rw c.in-Ok-Passed.field-0-is at c.in-Ok-Passed.ensures in
+    step-ends RefusesParent never IsParented (AfterParent c.args.job.now) c.args.document c.in-Ok-Passed.parented passed _ c.after_parent.result c.after_parent.ensures.answer
 
-pub returns-in-Refused : goal.returns-in-Refused
-returns-in-Refused c = found-refused itself IsWritable RefusesParent never IsParented (AfterParent c.args.job.now) c.args.document c.in-Refused.refusal (rw c.in-Refused.is at c.in_ok-parented.ensures)
+pub returns-in-Ok-Refused-clause-answer : goal.returns-in-Ok-Refused-clause-answer
+returns-in-Ok-Refused-clause-answer g c = (step-refused RefusesParent never IsParented (AfterParent c.args.job.now) c.args.document c.in-Ok-Refused.refusal (rw c.in-Ok-Refused.field-0-is at c.in-Ok-Refused.ensures), grown_by_nothing (g.O.Sink.written c.args.out.now))

@@ -1,13 +1,17 @@
-use Rattle.std.proofs.Common.{ℕ, List, subst}
-use Rattle.iso_text.specs.Streams.{GrownBy, GrownByPrefix}
+use Rattle.iso_report.specs.Outcome.{AfterText}
+use Rattle.report_steps.specs.Stages.{RefusesText, IsRead}
+use Rattle.report_steps.specs.Steps.{never}
+use Rattle.iso_report.proofs.EndingLemmas.{grown_by_nothing, step-refused, step-ends}
 use Rattle.iso_report.proofs.outcome.run.Goals as goal
 
-pub returns-in-Ok-put_all-clause-answer : goal.returns-in-Ok-put_all-clause-answer
-returns-in-Ok-put_all-clause-answer g c =
-    let P : List ℕ → Type 0 = λ t. GrownBy t (g.O.Sink.written c.args.out.now) (g.O.Sink.written c.put_all.new.sink) in
-    (c.in-Ok.text, c.in-Ok.ensures, subst P c.as_slice.ensures c.in-Ok-put_all.ensures.ok)
+pub after_text-requires-clause-held : goal.after_text-requires-clause-held
+after_text-requires-clause-held g c = rw c.in-Ok-Passed.field-0-is at c.in-Ok-Passed.ensures.ranges
 
-pub returns-clause-answer : goal.returns-clause-answer
-returns-clause-answer g c =
-    let P : List ℕ → Type 0 = λ t. GrownByPrefix t (g.O.Sink.written c.args.out.now) (g.O.Sink.written c.put_all.new.sink) in
-    (c.in-Ok.text, c.in-Ok.ensures, subst P c.as_slice.ensures c.in-Err-put_all.ensures.err, c.in-Err-put_all.ensures.cause)
+pub returns-in-Ok-Passed-clause-answer : goal.returns-in-Ok-Passed-clause-answer
+returns-in-Ok-Passed-clause-answer g c =
+    let passed = rw c.in-Ok-Passed.field-0-is at c.in-Ok-Passed.ensures.answer in
+    step-ends RefusesText never IsRead (AfterText c.args.job.now) c.args.bytes.now c.in-Ok-Passed.document passed _ c.after_text.result c.after_text.ensures.answer
+
+pub returns-in-Ok-Refused-clause-answer : goal.returns-in-Ok-Refused-clause-answer
+returns-in-Ok-Refused-clause-answer g c =
+    (step-refused RefusesText never IsRead (AfterText c.args.job.now) c.args.bytes.now c.in-Ok-Refused.refusal (rw c.in-Ok-Refused.field-0-is at c.in-Ok-Refused.ensures.answer), grown_by_nothing (g.O.Sink.written c.args.out.now))
