@@ -8,10 +8,11 @@ use Rattle.super_group.specs.Quotient.{SupercellGroup, order_of}
 use Rattle.wyckoff.specs.AtomLines.{AreOrbitsOf}
 use Rattle.wyckoff.specs.Orbit.{OrbitView, IsOrbitOf}
 use Rattle.wyckoff.specs.OrbitLaws.{places-unique}
+use Rattle.mode_project.specs.AtomSpace.{displacements}
 use Rattle.mode_project.specs.Modes.{AreModes}
 use Rattle.mode_project.specs.OneBasis.{AreAlike}
 use Rattle.report_steps.specs.Contexts.{Divided}
-use Rattle.report_steps.specs.EachLaws.{each-through}
+use Rattle.report_steps.specs.EachLaws.{each-same, each-through}
 use Rattle.report_steps.specs.IrrepSteps.{Each}
 use Rattle.report_steps.specs.StepLaws.{IsSingleAt}
 use Rattle.mode_report.specs.AllModes.{IsToldOf, told_modes}
