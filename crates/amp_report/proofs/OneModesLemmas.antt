@@ -1,19 +1,17 @@
 -- The orbits of a file and the modes of each are one, but for the tables of the orbits.
-use Rattle.std.proofs.Common.{◌≡◌, refl, sym, ap, ◌∙◌, subst, ◌⊎◌, inl, inr, ℕ, ◌<◌, ◌≤◌, List, [], ◌∷◌, length, arith}
+use Rattle.std.proofs.Common.{◌≡◌, refl, sym, ◌∙◌, subst, ℕ, List, [], ◌∷◌, length, arith}
 use Rattle.std.proofs.lemmas.Option.{slice_get_within}
-use Rattle.cyclo24.specs.ExactK24.{Exact24, k24_laws}
+use Rattle.cyclo24.specs.ExactK24.{Exact24}
 use Rattle.iso_text.specs.declared.sections.AtomText.{AtomText}
 use Rattle.iso_text.specs.declared.sections.IrrepText.{IrrepText}
 use Rattle.space_ops.specs.Op.{vector_of}
-use Rattle.super_group.specs.Quotient.{SupercellGroup, order_of}
+use Rattle.super_group.specs.Quotient.{SupercellGroup}
 use Rattle.wyckoff.specs.AtomLines.{AreOrbitsOf}
 use Rattle.wyckoff.specs.Orbit.{OrbitView, IsOrbitOf}
 use Rattle.wyckoff.specs.OrbitLaws.{places-unique}
-use Rattle.mode_project.specs.AtomSpace.{AtomSpace, displacements}
-use Rattle.mode_project.specs.Modes.{AreModes}
-use Rattle.mode_project.specs.OneBasis.{AreAlike}
+use Rattle.mode_project.specs.AtomSpace.{displacements}
 use Rattle.report_steps.specs.Contexts.{Divided}
-use Rattle.report_steps.specs.EachLaws.{each-through}
+use Rattle.report_steps.specs.EachLaws.{each-same, each-through}
 use Rattle.report_steps.specs.IrrepSteps.{Each}
 use Rattle.mode_report.specs.AllModes.{IsToldOf, told_modes}
 use Rattle.mode_report.specs.Held.{placed_in}

@@ -1,10 +1,9 @@
 -- What is told of the pairs of a file is one.
-use Rattle.std.proofs.Common.{◌≡◌, refl, sym, ap, ◌∙◌, subst, ◌⊎◌, inl, inr, ◌↔◌, ℕ, ◌<◌, ◌≤◌, Bool, true, false, List, arith}
+use Rattle.std.proofs.Common.{◌≡◌, refl, sym, ◌∙◌, subst, ◌↔◌, ℕ, Bool, true, false, List}
 use Rattle.cyclo24.specs.ExactK24.{Exact24}
 use Rattle.super_group.specs.Quotient.{SupercellGroup}
 use Rattle.report_steps.specs.Contexts.{Divided}
 use Rattle.report_steps.specs.EachLaws.{each-same}
-use Rattle.report_steps.specs.Finding.{Finding}
 use Rattle.report_steps.specs.IrrepSteps.{Each}
 use Rattle.report_steps.specs.StepLaws.{IsSingleAt, FindsOneAt, After-single-at}
 use Rattle.apart_report.specs.ApartFound.{Weighted, weighted, pairs_of, IsToldOf, RefusesNone, AreWidePairs, ArePairsTold, IsReported, AreApartFound}

@@ -1,22 +1,21 @@
 -- What is told of the orbits of a file is one.
-use Rattle.std.proofs.Common.{◌≡◌, refl, sym, ap, ◌∙◌, subst, ◌⊎◌, inl, inr, ℕ, suc, ◌<◌, ◌≤◌, List, [], ◌∷◌, length, Some, slice_get, arith}
-use Rattle.cyclo24.specs.ExactK24.{Exact24, k24_laws}
+use Rattle.std.proofs.Common.{◌≡◌, refl, sym, ◌∙◌, subst, ℕ, suc, List, [], ◌∷◌, length, Some, slice_get, arith}
+use Rattle.cyclo24.specs.ExactK24.{Exact24}
 use Rattle.iso_text.specs.declared.sections.AtomText.{AtomText}
 use Rattle.iso_text.specs.declared.sections.IrrepText.{IrrepText}
 use Rattle.space_ops.specs.Op.{vector_of}
-use Rattle.super_group.specs.Quotient.{SupercellGroup, order_of}
+use Rattle.super_group.specs.Quotient.{SupercellGroup}
 use Rattle.wyckoff.specs.AtomLines.{AreOrbitsOf}
 use Rattle.wyckoff.specs.Orbit.{OrbitView, IsOrbitOf}
 use Rattle.wyckoff.specs.OrbitLaws.{places-unique}
-use Rattle.mode_project.specs.Modes.{AreModes}
-use Rattle.mode_project.specs.OneBasis.{AreAlike}
+use Rattle.mode_project.specs.AtomSpace.{displacements}
 use Rattle.report_steps.specs.Contexts.{Divided}
-use Rattle.report_steps.specs.EachLaws.{each-through}
+use Rattle.report_steps.specs.EachLaws.{each-same, each-through}
 use Rattle.report_steps.specs.IrrepSteps.{Each}
 use Rattle.report_steps.specs.StepLaws.{IsSingleAt}
 use Rattle.mode_report.specs.AllModes.{IsToldOf, told_modes}
 use Rattle.mode_report.specs.Atoms.{RefusesAtoms}
-use Rattle.mode_report.specs.IrrepWeights.{IsWeightOf, AreWeightsOf}
+use Rattle.mode_report.specs.IrrepWeights.{AreWeightsOf}
 use Rattle.mode_report.specs.ModesFound.{AreToldOf}
 use Rattle.mode_report.specs.Told.{OrbitModes, counts_text}
 use Rattle.mode_report.proofs.CauseLemmas.{refused-one, none-refused}

@@ -5,9 +5,9 @@ use Rattle.couple_report.proofs.closing.closed.Goals as goal
 pub returns-in-Ok : goal.returns-in-Ok
 returns-in-Ok g c =
     let e = c.in-Ok.ensures in
-    (few-fixes c.args.together.now (g.G.Acts.action c.args.acts.now) c.limit.result c.limit.ensures.value e.few, record { width = e.width; holds = e.holds; vectors = e.vectors; spaces = e.spaces })
+    (few-fixes c.args.together.now (g.G.Acts.action c.args.acts.now) c.subspace_limit-limit.result c.subspace_limit-limit.ensures.value e.few, record { width = e.width; holds = e.holds; vectors = e.vectors; spaces = e.spaces })
 
 pub returns-in-Err-TooManySubspaces : goal.returns-in-Err-TooManySubspaces
 returns-in-Err-TooManySubspaces g c =
     let e = c.in-Err-TooManySubspaces in
-    many-fixes c.args.together.now (g.G.Acts.action c.args.acts.now) c.limit.result c.limit.ensures.value (e.ensures.many (ap Err e.field-0-is))
+    many-fixes c.args.together.now (g.G.Acts.action c.args.acts.now) c.subspace_limit-limit.result c.subspace_limit-limit.ensures.value (e.ensures.many (ap Err e.field-0-is))

@@ -8,12 +8,12 @@ close-requires-clause-order g c = order-few c.args.formed.now c.requires (subst 
 pub returns-in-Ok : goal.returns-in-Ok
 returns-in-Ok g c =
     let e = c.in-Ok.ensures in
-    (few-fixes c.args.formed.now c.limit.result c.limit.ensures.value e.few, record { width = e.width; holds = e.holds; vectors = e.vectors; spaces = e.spaces })
+    (few-fixes c.args.formed.now c.subspace_limit-limit.result c.subspace_limit-limit.ensures.value e.few, record { width = e.width; holds = e.holds; vectors = e.vectors; spaces = e.spaces })
 
 pub returns-in-Err-TooManySubspaces : goal.returns-in-Err-TooManySubspaces
 returns-in-Err-TooManySubspaces g c =
     let e = c.in-Err-TooManySubspaces in
-    many-fixes c.args.formed.now c.limit.result c.limit.ensures.value (e.ensures.many (ap Err e.field-0-is))
+    many-fixes c.args.formed.now c.subspace_limit-limit.result c.subspace_limit-limit.ensures.value (e.ensures.many (ap Err e.field-0-is))
 
 pub returns-in-Err-Wide : goal.returns-in-Err-Wide
 returns-in-Err-Wide g c = let e = c.in-Err-Wide in wide-fixes c.args.formed.now (e.ensures.wide (ap Err e.field-0-is))
