@@ -1,5 +1,5 @@
 -- Sums over a group by number.
-use Rattle.std.proofs.Common.{◌≡◌, ℕ, ◌+◌, ◌<◌, ◌≤◌, ◌↔◌, Bool, true, false, refl, sym, ◌∙◌, ap, subst, arith, add-one, List, length, get_or, Result, Ok, Err, IfOk, OnErr}
+use Rattle.std.proofs.Common.{◌≡◌, ℕ, ◌+◌, ◌<◌, ◌≤◌, ◌↔◌, Bool, true, false, sym, ◌∙◌, ap, subst, arith, add-one, List, length, get_or, Result, Ok, Err, IfOk, OnErr}
 use Rattle.std.proofs.lemmas.List.{get_or-map}
 use Rattle.algebra.specs.NumberedGroup.{Group}
 use Rattle.cyclo24.specs.ExactField.{ExactField, Value}
@@ -66,12 +66,6 @@ elements-end q n m e l k = omega (arith, e, l, k)
 pub above-none : (q k : ℕ) → q ≡ 0 → k < q → ⊥
 above-none q k e l = omega (arith, e, l)
 
--- an answer that a call gives
-pub told : {E : Type 0} (r : Result Bool E) (P : Type 0) → (r ≡ Ok true → P) → (r ≡ Ok false → P → ⊥) → IfOk r (λ yes. (yes ≡ true) ↔ P)
-told (Ok true) P y n = (λ _. y refl, λ _. refl)
-told (Ok false) P y n = (λ e. let t : false ≡ true = e in absurd cc, λ p. absurd (n refl p))
-told (Err e) P y n = tt
-
 pub never : (P : Type 0) → (P → ⊥) → (false ≡ true) ↔ P
 never P n = (λ e. let t : false ≡ true = e in absurd cc, λ p. absurd (n p))
 
@@ -85,14 +79,22 @@ module _ {A : Type 0} (f : ExactField) (value : A → Value f) (g : Group) (xs y
   pub right-odd : (IsEven g (vector f.laws value vs) → ⊥) → (false ≡ true) ↔ IsTold
   right-odd n = never IsTold (λ a. n (subst (λ zs. IsEven g (vector f.laws value zs)) (sym ey) a.right))
 
-  pub both-even : {E : Type 0} (r : Result Bool E) → IsEven g (vector f.laws value us) → IsEven g (vector f.laws value vs)
-      → (r ≡ Ok true → (p : ℕ) → p < g.order → convolution f.laws g (vector f.laws value us) (vector f.laws value vs) p ≡ f.laws.nought)
-      → (r ≡ Ok false → ((p : ℕ) → p < g.order → convolution f.laws g (vector f.laws value us) (vector f.laws value vs) p ≡ f.laws.nought) → ⊥)
-      → IfOk r (λ yes. (yes ≡ true) ↔ IsTold)
-  both-even r l m y n =
-      subst (λ zs. IfOk r (λ yes. (yes ≡ true) ↔ AreApart f.laws g (vector f.laws value zs) (vector f.laws value ys))) ex
-      (subst (λ zs. IfOk r (λ yes. (yes ≡ true) ↔ AreApart f.laws g (vector f.laws value us) (vector f.laws value zs))) ey
-      (told r (AreApart f.laws g (vector f.laws value us) (vector f.laws value vs)) (λ e. record { left = l; right = m; sums = y e }) (λ e a. n e a.sums)))
+  -- the sum at the identity, where it decides
+  pub both-even : (zero : Bool) (s : Value f) → zero ≡ f.laws.is_nought s → IsEven g (vector f.laws value us) → IsEven g (vector f.laws value vs)
+      → s ≡ convolution f.laws g (vector f.laws value us) (vector f.laws value vs) 0 → 0 < g.order
+      → (convolution f.laws g (vector f.laws value xs) (vector f.laws value ys) 0 ≡ f.laws.nought
+      → (p : ℕ) → p < g.order → convolution f.laws g (vector f.laws value xs) (vector f.laws value ys) p ≡ f.laws.nought)
+      → (zero ≡ true) ↔ IsTold
+  both-even zero s e l m at some all =
+      let own : s ≡ convolution f.laws g (vector f.laws value xs) (vector f.laws value ys) 0 = at ∙ (λ t. convolution f.laws g (vector f.laws value (ex t)) (vector f.laws value (ey t)) 0) in (
+        λ t. record {
+          left = subst (λ zs. IsEven g (vector f.laws value zs)) ex l;
+          right = subst (λ zs. IsEven g (vector f.laws value zs)) ey m;
+          sums = all (sym own ∙ f.laws.is_nought-true s (sym e ∙ t));
+        },
+        λ a. e ∙ ap f.laws.is_nought (own ∙ a.sums 0 some) ∙ f.laws.is_nought-nought,
+      )
 
-  pub told-wide : {E : Type 0} (r : Result Bool E) → OnErr r (IsWideApart f g (vector f.laws value us) (vector f.laws value vs)) → OnErr r (IsWideApart f g (vector f.laws value xs) (vector f.laws value ys))
-  told-wide r h = subst (λ zs. OnErr r (IsWideApart f g (vector f.laws value zs) (vector f.laws value ys))) ex (subst (λ zs. OnErr r (IsWideApart f g (vector f.laws value us) (vector f.laws value zs))) ey h)
+  pub told-wide : 0 < g.order → IsWideDot f g.order (vector f.laws value us) (λ q. vector f.laws value vs (g.product (g.inverse q) 0)) → IsWideApart f g (vector f.laws value xs) (vector f.laws value ys)
+  told-wide some h =
+      subst (λ zs. IsWideApart f g (vector f.laws value zs) (vector f.laws value ys)) ex (subst (λ zs. IsWideApart f g (vector f.laws value us) (vector f.laws value zs)) ey (0, some, h))

@@ -1,1 +1,5 @@
 mod ApartLemmas
+mod ProjectorLemmas
+mod ConvolutionLemmas
+mod WeightLemmas
+mod InducedLemmas

@@ -7,14 +7,16 @@ ghost use Rattle.induce.specs.Apart.{AreApart, weights_by};
 ghost use Rattle.char_orth.specs.Wide.{IsWideApart};
 
 use crate::even::is_even;
-use crate::sums::are_zero_sums;
-use cyclo24::Wide;
+use crate::sums::sum_at;
+use cyclo24::{Field, Wide};
 use induce::Induced;
 use super_group::Quotient;
 
 /// Whether two representations are apart: the weights of each are the same on q and on q^-1, and for
-/// each p the sum over all q of the left weight of q times the right weight of q^-1 p is 0. Condition:
-/// both are of this quotient. Errors: a number that is too wide.
+/// each p the sum over all q of the left weight of q times the right weight of q^-1 p is 0. The sum at
+/// the identity decides: it is the order times a whole number, which is 0 only where nothing is carried
+/// from one representation to the other (Serre, Linear Representations of Finite Groups, 2.3).
+/// Condition: both are of this quotient. Errors: a number that is too wide.
 pub fn apart(quotient: &Quotient, left: &Induced, right: &Induced) -> Result<bool, Wide>
     requires left { IsInducedOf quotient.now left.now }
     requires right { IsInducedOf quotient.now right.now }
@@ -29,5 +31,6 @@ pub fn apart(quotient: &Quotient, left: &Induced, right: &Induced) -> Result<boo
     if !is_even(quotient, other) {
         return Ok(false);
     }
-    are_zero_sums(quotient, one, other)
+    let sum = sum_at(quotient, one, other, 0)?;
+    Ok(sum.is_zero())
 }

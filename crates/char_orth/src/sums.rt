@@ -1,10 +1,9 @@
 // The convolution of two lists of weights.
-ghost use Rattle.std.specs.Prelude.{◌≡◌, ◌<◌, ℕ, true, false, Ok, IfOk, OnErr, length};
+ghost use Rattle.std.specs.Prelude.{◌≡◌, ◌<◌, IfOk, OnErr, length};
 ghost use Rattle.lin_alg.specs.Matrices.{convolution};
 ghost use Rattle.lin_alg.specs.Matrix.{IsWideDot, IsWideTerm};
 ghost use Rattle.lin_alg.specs.Rows.{vector};
 ghost use Rattle.super_group.specs.Quotient.{order_of, quotient_group};
-ghost use Rattle.char_orth.specs.Wide.{IsWideApart};
 
 use cyclo24::{Field, Wide};
 use lin_alg::add_product;
@@ -37,7 +36,7 @@ fn with_term<F: Field>(
 
 /// The convolution at p: the sum, by number of q, of the left weight of q times the right weight of
 /// q^-1 p.
-fn sum_at<F: Field>(quotient: &Quotient, left: &[F], right: &[F], p: usize) -> Result<F, Wide>
+pub fn sum_at<F: Field>(quotient: &Quotient, left: &[F], right: &[F], p: usize) -> Result<F, Wide>
     requires left { length left.now ≡ order_of quotient.now }
     requires right { length right.now ≡ order_of quotient.now }
     requires at { p < order_of quotient.now }
@@ -49,21 +48,4 @@ fn sum_at<F: Field>(quotient: &Quotient, left: &[F], right: &[F], p: usize) -> R
         sum = with_term(quotient, left, right, p, q, sum)?;
     }
     Ok(sum)
-}
-
-/// Whether the convolution is 0 at every element.
-pub fn are_zero_sums<F: Field>(quotient: &Quotient, left: &[F], right: &[F]) -> Result<bool, Wide>
-    requires left { length left.now ≡ order_of quotient.now }
-    requires right { length right.now ≡ order_of quotient.now }
-    ensures yes { result ≡ Ok true → (p : ℕ) → p < order_of quotient.now → convolution F.field.laws (quotient_group quotient.now) (vector F.field.laws F.value left.now) (vector F.field.laws F.value right.now) p ≡ F.field.laws.nought }
-    ensures no { result ≡ Ok false → ((p : ℕ) → p < order_of quotient.now → convolution F.field.laws (quotient_group quotient.now) (vector F.field.laws F.value left.now) (vector F.field.laws F.value right.now) p ≡ F.field.laws.nought) → ⊥ }
-    ensures wide { OnErr result (IsWideApart F.field (quotient_group quotient.now) (vector F.field.laws F.value left.now) (vector F.field.laws F.value right.now)) }
-{
-    for p in 0..left.len() {
-        let sum = sum_at(quotient, left, right, p)?;
-        if !sum.is_zero() {
-            return Ok(false);
-        }
-    }
-    Ok(true)
 }
