@@ -26,7 +26,7 @@ some_columns : (a n m : ℕ) → a < n * m → 0 < m
 some_columns a n zero l = let c : n * 0 ≡ 0 = omega arith in absurd (omega (arith, l, c))
 some_columns a n (suc m) l = omega arith
 
-pair-below : (n m i k : ℕ) → i < n → k < m → i * m + k < n * m
+pub pair-below : (n m i k : ℕ) → i < n → k < m → i * m + k < n * m
 pair-below n m i k a b = grind arith
 
 -- q goes to a q

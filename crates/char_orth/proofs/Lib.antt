@@ -2,4 +2,6 @@ mod ApartLemmas
 mod ProjectorLemmas
 mod ConvolutionLemmas
 mod WeightLemmas
+mod InverseLemmas
+mod EvenLemmas
 mod InducedLemmas

@@ -1,8 +1,7 @@
 -- The convolution of weights of induced representations is 0 at every element where it is 0 at the identity.
 --
--- IsRingMap f h φ: φ respects sums, products and 0
+-- IsRingMap f h φ: φ respects sums, products and 0; map-.., sum-total: what it makes of sums
 -- decides: the same of numbers that are characters plus their conjugates, by a map into a field that has both
--- weights-decide: of weights of induced representations
 use Rattle.std.proofs.Common.{◌≡◌, ℕ, suc, zero, ◌<◌, false, refl, sym, ◌∙◌, ap, subst, [], ◌∷◌}
 use Rattle.algebra.specs.NumberedGroup.{Group, IsGroup}
 use Rattle.algebra.specs.Solve.{V, Add, Mul, at}
@@ -21,12 +20,17 @@ pub record IsRingMap {K L : Type 0} (f : FieldOn K) (h : FieldOn L) (φ : K → 
   pub of_plus : (x y : K) → φ (f.plus x y) ≡ h.plus (φ x) (φ y)
   pub of_times : (x y : K) → φ (f.times x y) ≡ h.times (φ x) (φ y)
 
-module _ {K L : Type 0} (f : FieldOn K) (h : FieldOn L) (φ : K → L) (map : IsRingMap f h φ) where
-  map-total : (n : ℕ) (x : ℕ → K) → φ (total f n x) ≡ total h n (λ k. φ (x k))
-  map-total zero x = map.of_nought
-  map-total (suc n) x = map.of_plus (total f n x) (x n) ∙ ap (λ y. h.plus y (φ (x n))) (map-total n x)
+module _ {K L : Type 0} (f : FieldOn K) (h : FieldOn L) (φ : K → L) where
+  -- where φ respects sums and 0
+  pub sum-total : φ f.nought ≡ h.nought → ((x y : K) → φ (f.plus x y) ≡ h.plus (φ x) (φ y)) → (n : ℕ) (x : ℕ → K) → φ (total f n x) ≡ total h n (λ k. φ (x k))
+  sum-total z s zero x = z
+  sum-total z s (suc n) x = s (total f n x) (x n) ∙ ap (λ y. h.plus y (φ (x n))) (sum-total z s n x)
 
-  map-products : (n : ℕ) (x y : ℕ → K) → φ (total f n (λ k. f.times (x k) (y k))) ≡ total h n (λ k. h.times (φ (x k)) (φ (y k)))
+module _ {K L : Type 0} (f : FieldOn K) (h : FieldOn L) (φ : K → L) (map : IsRingMap f h φ) where
+  pub map-total : (n : ℕ) (x : ℕ → K) → φ (total f n x) ≡ total h n (λ k. φ (x k))
+  map-total = sum-total f h φ map.of_nought map.of_plus
+
+  pub map-products : (n : ℕ) (x y : ℕ → K) → φ (total f n (λ k. f.times (x k) (y k))) ≡ total h n (λ k. h.times (φ (x k)) (φ (y k)))
   map-products n x y = map-total n (λ k. f.times (x k) (y k)) ∙ total-same h n _ _ (λ k l. map.of_times (x k) (y k))
 
   map-representation : (g : Group) (d : ℕ) (m : ℕ → ℕ → ℕ → K) → IsRepresentation f g d m → IsRepresentation h g d (λ q i j. φ (m q i j))
