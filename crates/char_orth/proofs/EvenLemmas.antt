@@ -2,7 +2,7 @@
 --
 -- IsDefinite h c: a sum of numbers times their conjugates is 0 only where each is
 -- conjugate-character: over such a field, by the form that is the sum over q of D(q)* D(q)
-use Rattle.std.proofs.Common.{◌≡◌, ℕ, zero, ◌+◌, ◌*◌, ◌/◌, ◌%◌, ◌<◌, sym, ◌∙◌, ap, arith}
+use Rattle.std.proofs.Common.{◌≡◌, ℕ, ◌+◌, ◌*◌, ◌/◌, ◌%◌, ◌<◌, sym, ◌∙◌, ap}
 use Rattle.std.proofs.lemmas.Nat.{div-mul-add, mod-mul-add}
 use Rattle.algebra.specs.NumberedGroup.{Group, IsGroup}
 use Rattle.algebra.specs.NumberedGroupLaws.{product-inverse, product-identity}

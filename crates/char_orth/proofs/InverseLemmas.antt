@@ -2,7 +2,7 @@
 --
 -- left-inverse: a matrix that takes only 0 to 0 has one
 -- trace-carried: where A X = X B for such an X, and from the left too, A and B have one trace
-use Rattle.std.proofs.Common.{◌≡◌, ℕ, suc, zero, ◌<◌, ◌≤◌, inl, inr, List, [], ◌∷◌, refl, sym, ◌∙◌, ap, subst, arith, ltb, lt-ltb, le-ltb, nat_eq, if◌then◌else◌}
+use Rattle.std.proofs.Common.{◌≡◌, ℕ, suc, zero, ◌<◌, inl, inr, List, [], ◌∷◌, sym, ◌∙◌, ap, subst, arith, ltb, lt-ltb, le-ltb, nat_eq, if◌then◌else◌}
 use Rattle.cyclo24.specs.FieldOn.{FieldOn}
 use Rattle.cyclo24.specs.FieldLaws.{nought-times, times-nought, unit-times, neg-plus, less-same, less-self}
 use Rattle.cyclo24.specs.Sums.{total}
