@@ -1,10 +1,10 @@
--- Sums over a group by number.
-use Rattle.std.proofs.Common.{◌≡◌, ℕ, ◌+◌, ◌<◌, ◌≤◌, ◌↔◌, Bool, true, false, refl, sym, ◌∙◌, ap, subst, arith, add-one, List, length, get_or, Result, Ok, Err, IfOk, OnErr}
-use Rattle.std.proofs.lemmas.List.{get_or-map}
-use Rattle.algebra.specs.NumberedGroup.{Group}
+-- The inner product of two lists of weights, and what it tells.
+use Rattle.std.proofs.Common.{◌≡◌, ℕ, ◌<◌, ◌↔◌, Bool, true, sym, ◌∙◌, ap, subst, arith, List, length, Result, Ok, Err, OnErr}
+use Rattle.algebra.specs.NumberedGroup.{Group, IsGroup}
+use Rattle.algebra.specs.NumberedGroupLaws.{product-identity}
 use Rattle.cyclo24.specs.ExactField.{ExactField, Value}
-use Rattle.cyclo24.specs.FieldLaws.{nought-times}
 use Rattle.cyclo24.specs.Sums.{total}
+use Rattle.cyclo24.specs.TotalLaws.{total-same}
 use Rattle.lin_alg.specs.Matrices.{convolution}
 use Rattle.lin_alg.specs.Matrix.{IsWideTerm, IsWideDot}
 use Rattle.lin_alg.specs.Rows.{vector}
@@ -15,84 +15,42 @@ pub on-err : {A E : Type 0} (r : Result A E) (P : Type 0) → P → OnErr r P
 on-err (Ok x) P p = tt
 on-err (Err e) P p = p
 
-pub on-err-map : {A E : Type 0} (r : Result A E) (P Q : Type 0) → (P → Q) → OnErr r P → OnErr r Q
-on-err-map (Ok x) P Q m h = tt
-on-err-map (Err e) P Q m h = m h
+-- the weights of two representations as calls give them
+module _ {A : Type 0} (f : ExactField) (value : A → Value f) (xs ys us vs : List A) (ex : us ≡ xs) (ey : vs ≡ ys) (n : ℕ) (count : length xs ≡ n) where
+  pub given-sum : total f.laws (length us) (λ q. f.laws.times (vector f.laws value us q) (vector f.laws value vs q)) ≡ total f.laws n (λ q. f.laws.times (vector f.laws value xs q) (vector f.laws value ys q))
+  given-sum =
+      (λ t. total f.laws (length (ex t)) (λ q. f.laws.times (vector f.laws value (ex t) q) (vector f.laws value (ey t) q)))
+      ∙ ap (λ m. total f.laws m (λ q. f.laws.times (vector f.laws value xs q) (vector f.laws value ys q))) count
 
-module _ {A : Type 0} (f : ExactField) (value : A → Value f) where
-  -- the weights of a list
-  abbrev w : List A → ℕ → Value f
-  w xs = vector f.laws value xs
+  pub given-wide : IsWideDot f (length us) (vector f.laws value us) (vector f.laws value vs) → IsWideDot f n (vector f.laws value xs) (vector f.laws value ys)
+  given-wide h =
+      subst (λ m. IsWideDot f m (vector f.laws value xs) (vector f.laws value ys)) count
+      (subst (λ zs. IsWideDot f (length xs) (vector f.laws value xs) (vector f.laws value zs)) ey (subst (λ zs. IsWideDot f (length zs) (vector f.laws value zs) (vector f.laws value vs)) ex h))
 
-  pub weight-at : (xs : List A) (j : ℕ) (x : A) → j < length xs → x ≡ get_or xs j x → value x ≡ w xs j
-  weight-at xs j x l e = sym (get_or-map value xs j x f.laws.nought l ∙ ap value (sym e))
+-- where the right weights are the same on inverses
+module _ (f : ExactField) (g : Group) (law : IsGroup g) (w u : ℕ → Value f) (even : IsEven g u) where
+  at-inverse : (q : ℕ) → q < g.order → u q ≡ u (g.product (g.inverse q) 0)
+  at-inverse q l = sym (even q l) ∙ ap u (sym (product-identity g law (g.inverse q) (law.inverse_below q l)))
 
-  -- the weight at an element that a code found
-  pub weight-found : (ys : List A) (i r : ℕ) (y : A) → i ≡ r → i < length ys → y ≡ get_or ys i y → value y ≡ w ys r
-  weight-found ys i r y e l k = weight-at ys i y l k ∙ ap (w ys) e
+  at-identity : total f.laws g.order (λ q. f.laws.times (w q) (u q)) ≡ convolution f.laws g w u 0
+  at-identity = total-same f.laws g.order _ _ (λ q l. ap (f.laws.times (w q)) (at-inverse q l))
 
-  -- a left weight 0 adds nothing
-  pub term-none : (xs : List A) (q : ℕ) (x : A) (s y : Value f) → q < length xs → x ≡ get_or xs q x → f.laws.is_nought (value x) ≡ true → s ≡ f.laws.plus s (f.laws.times (w xs q) y)
-  term-none xs q x s y l e z =
-      sym (ap (λ a. f.laws.plus s (f.laws.times a y)) (sym (weight-at xs q x l e) ∙ f.laws.is_nought-true (value x) z) ∙ ap (f.laws.plus s) (nought-times f.laws y) ∙ f.laws.plus-nought s)
+  -- an inner product that is 0 where the sum at the identity decides
+  pub decided : (zero : Bool) (s : Value f) → zero ≡ f.laws.is_nought s → s ≡ total f.laws g.order (λ q. f.laws.times (w q) (u q)) → IsEven g w
+      → (convolution f.laws g w u 0 ≡ f.laws.nought → (p : ℕ) → p < g.order → convolution f.laws g w u p ≡ f.laws.nought)
+      → (zero ≡ true) ↔ AreApart f.laws g w u
+  decided zero s e d left all =
+      let own : s ≡ convolution f.laws g w u 0 = d ∙ at-identity in (
+        λ t. record { left = left; right = even; sums = all (sym own ∙ f.laws.is_nought-true s (sym e ∙ t)) },
+        λ a. e ∙ ap f.laws.is_nought (own ∙ a.sums 0 law.identity_below) ∙ f.laws.is_nought-nought,
+      )
 
-  pub term-exact : {E : Type 0} (t : Result A E) (s x y x' y' : Value f) → x ≡ x' → y ≡ y' → IfOk t (λ a. value a ≡ f.laws.plus s (f.laws.times x y)) → IfOk t (λ a. value a ≡ f.laws.plus s (f.laws.times x' y'))
-  term-exact t s x y x' y' e k h = subst (λ (z : Value f). IfOk t (λ a. value a ≡ f.laws.plus s (f.laws.times x' z))) k (subst (λ (z : Value f). IfOk t (λ a. value a ≡ f.laws.plus s (f.laws.times z y))) e h)
-
-  pub term-wide : {E : Type 0} (t : Result A E) (s x y x' y' : Value f) → x ≡ x' → y ≡ y' → OnErr t (IsWideTerm f s x y) → OnErr t (IsWideTerm f s x' y')
-  term-wide t s x y x' y' e k h = subst (λ (z : Value f). OnErr t (IsWideTerm f s x' z)) k (subst (λ (z : Value f). OnErr t (IsWideTerm f s z y)) e h)
-
-module _ (f : ExactField) (x y : ℕ → Value f) where
-  -- the sum of the first products
-  abbrev sum-to : ℕ → Value f
-  sum-to j = total f.laws j (λ k. f.laws.times (x k) (y k))
-
-  pub sum-next : (j : ℕ) (s t : Value f) → s ≡ sum-to j → t ≡ f.laws.plus s (f.laws.times (x j) (y j)) → t ≡ sum-to (j + 1)
-  sum-next j s t e k = k ∙ ap (λ z. f.laws.plus z (f.laws.times (x j) (y j))) e ∙ ap sum-to (sym (add-one j))
-
-  pub sum-wide : (n j : ℕ) (s : Value f) → j < n → s ≡ sum-to j → IsWideTerm f s (x j) (y j) → IsWideDot f n x y
-  sum-wide n j s l e h = (j, l, subst (λ (z : Value f). IsWideTerm f z (x j) (y j)) e h)
-
-  pub sum-end : (n j : ℕ) (s : Value f) → j ≡ n → s ≡ sum-to j → s ≡ sum-to n
-  sum-end n j s e k = k ∙ ap sum-to e
-
--- q is below the order, and ends there
-pub element-below : (q n m : ℕ) → n ≡ m → q < n → q < m
-element-below q n m e l = omega (arith, e, l)
-
-pub elements-end : (q n m : ℕ) → n ≡ m → n ≤ q → q ≤ n → q ≡ m
-elements-end q n m e l k = omega (arith, e, l, k)
-
-pub above-none : (q k : ℕ) → q ≡ 0 → k < q → ⊥
-above-none q k e l = omega (arith, e, l)
-
--- an answer that a call gives
-pub told : {E : Type 0} (r : Result Bool E) (P : Type 0) → (r ≡ Ok true → P) → (r ≡ Ok false → P → ⊥) → IfOk r (λ yes. (yes ≡ true) ↔ P)
-told (Ok true) P y n = (λ _. y refl, λ _. refl)
-told (Ok false) P y n = (λ e. let t : false ≡ true = e in absurd cc, λ p. absurd (n refl p))
-told (Err e) P y n = tt
-
-pub never : (P : Type 0) → (P → ⊥) → (false ≡ true) ↔ P
-never P n = (λ e. let t : false ≡ true = e in absurd cc, λ p. absurd (n p))
-
-module _ {A : Type 0} (f : ExactField) (value : A → Value f) (g : Group) (xs ys us vs : List A) (ex : us ≡ xs) (ey : vs ≡ ys) where
-  abbrev IsTold : Type 0
-  IsTold = AreApart f.laws g (vector f.laws value xs) (vector f.laws value ys)
-
-  pub left-odd : (IsEven g (vector f.laws value us) → ⊥) → (false ≡ true) ↔ IsTold
-  left-odd n = never IsTold (λ a. n (subst (λ zs. IsEven g (vector f.laws value zs)) (sym ex) a.left))
-
-  pub right-odd : (IsEven g (vector f.laws value vs) → ⊥) → (false ≡ true) ↔ IsTold
-  right-odd n = never IsTold (λ a. n (subst (λ zs. IsEven g (vector f.laws value zs)) (sym ey) a.right))
-
-  pub both-even : {E : Type 0} (r : Result Bool E) → IsEven g (vector f.laws value us) → IsEven g (vector f.laws value vs)
-      → (r ≡ Ok true → (p : ℕ) → p < g.order → convolution f.laws g (vector f.laws value us) (vector f.laws value vs) p ≡ f.laws.nought)
-      → (r ≡ Ok false → ((p : ℕ) → p < g.order → convolution f.laws g (vector f.laws value us) (vector f.laws value vs) p ≡ f.laws.nought) → ⊥)
-      → IfOk r (λ yes. (yes ≡ true) ↔ IsTold)
-  both-even r l m y n =
-      subst (λ zs. IfOk r (λ yes. (yes ≡ true) ↔ AreApart f.laws g (vector f.laws value zs) (vector f.laws value ys))) ex
-      (subst (λ zs. IfOk r (λ yes. (yes ≡ true) ↔ AreApart f.laws g (vector f.laws value us) (vector f.laws value zs))) ey
-      (told r (AreApart f.laws g (vector f.laws value us) (vector f.laws value vs)) (λ e. record { left = l; right = m; sums = y e }) (λ e a. n e a.sums)))
-
-  pub told-wide : {E : Type 0} (r : Result Bool E) → OnErr r (IsWideApart f g (vector f.laws value us) (vector f.laws value vs)) → OnErr r (IsWideApart f g (vector f.laws value xs) (vector f.laws value ys))
-  told-wide r h = subst (λ zs. OnErr r (IsWideApart f g (vector f.laws value zs) (vector f.laws value ys))) ex (subst (λ zs. OnErr r (IsWideApart f g (vector f.laws value us) (vector f.laws value zs))) ey h)
+  pub wide-apart : IsWideDot f g.order w u → IsWideApart f g w u
+  wide-apart h =
+      let j = h.0 in
+      let x : ℕ → Value f = λ q. u (g.product (g.inverse q) 0) in
+      let below : (k : ℕ) → k < j → k < g.order = λ k l. let b : j < g.order = h.1 in omega (arith, l, b) in
+      let same : total f.laws j (λ k. f.laws.times (w k) (u k)) ≡ total f.laws j (λ k. f.laws.times (w k) (x k)) = total-same f.laws j _ _ (λ k l. ap (f.laws.times (w k)) (at-inverse k (below k l))) in
+      let term : IsWideTerm f (total f.laws j (λ k. f.laws.times (w k) (x k))) (w j) (x j) =
+      subst (λ (z : Value f). IsWideTerm f z (w j) (x j)) same (subst (λ (z : Value f). IsWideTerm f (total f.laws j (λ k. f.laws.times (w k) (u k))) (w j) z) (at-inverse j h.1) h.2) in
+      (0, law.identity_below, (j, h.1, term))

@@ -1,1 +1,7 @@
 mod ApartLemmas
+mod ProjectorLemmas
+mod ConvolutionLemmas
+mod WeightLemmas
+mod InverseLemmas
+mod EvenLemmas
+mod InducedLemmas

@@ -1,38 +1,30 @@
-use Rattle.std.proofs.Common.{◌∙◌, ap, length}
+use Rattle.std.proofs.Common.{◌∙◌}
 use Rattle.cyclo24.specs.ExactK24.{k24}
 use Rattle.cyclo24.specs.K24.{exact24}
-use Rattle.super_group.specs.Quotient.{quotient_group}
-use Rattle.char_orth.proofs.ApartLemmas.{left-odd, right-odd, both-even, told-wide}
+use Rattle.super_group.specs.Quotient.{order_of, quotient_group}
+use Rattle.super_group.specs.QuotientLaws.{quotient-lawful}
+use Rattle.induce.specs.Apart.{weights_by}
+use Rattle.char_orth.specs.Wide.{IsWideApart}
+use Rattle.char_orth.proofs.ApartLemmas.{on-err, given-sum, given-wide, decided, wide-apart}
+use Rattle.char_orth.proofs.InducedLemmas.{weights-decide, weights-even}
 use Rattle.char_orth.proofs.orthogonal.apart.Goals as goal
 
-pub is_even-requires : goal.is_even-requires
-is_even-requires c = ap length c.weights-one.ensures ∙ c.requires.left.count
-
-pub is_even-requires-2 : goal.is_even-requires-2
-is_even-requires-2 c = ap length c.weights-other.ensures ∙ c.requires.right.count
-
-pub are_zero_sums-requires-clause-left : goal.are_zero_sums-requires-clause-left
-are_zero_sums-requires-clause-left c = ap length c.weights-one.ensures ∙ c.requires.left.count
-
-pub are_zero_sums-requires-clause-right : goal.are_zero_sums-requires-clause-right
-are_zero_sums-requires-clause-right c = ap length c.weights-other.ensures ∙ c.requires.right.count
-
-pub returns-then-not-is_even-clause-exact : goal.returns-then-not-is_even-clause-exact
-returns-then-not-is_even-clause-exact c =
-    left-odd k24 exact24 (quotient_group c.args.quotient.now) c.args.left.now.weights c.args.right.now.weights c.weights-one.result.now c.weights-other.result.now c.weights-one.ensures c.weights-other.ensures
-    (c.is_even.ensures.no c.if-not-is_even.true)
-
-pub returns-then-not-is_even-2-clause-exact : goal.returns-then-not-is_even-2-clause-exact
-returns-then-not-is_even-2-clause-exact c =
-    right-odd k24 exact24 (quotient_group c.args.quotient.now) c.args.left.now.weights c.args.right.now.weights c.weights-one.result.now c.weights-other.result.now c.weights-one.ensures c.weights-other.ensures
-    (c.is_even-2.ensures.no c.if-not-is_even-2.true)
+pub returns-in_err-sum-clause-wide : goal.returns-in_err-sum-clause-wide
+returns-in_err-sum-clause-wide c =
+    let q = c.args.quotient.now in
+    let v = c.args.left.now in
+    let u = c.args.right.now in
+    let law = quotient-lawful q c.requires.left.tables.inducible.on.quotient in
+    on-err c.from_residual.result (IsWideApart k24 (quotient_group q) (weights_by v) (weights_by u))
+    (wide-apart k24 (quotient_group q) law (weights_by v) (weights_by u) (weights-even q u c.requires.right)
+    (given-wide k24 exact24 v.weights u.weights c.weights.result.now c.weights-2.result.now c.weights.ensures c.weights-2.ensures (order_of q) c.requires.left.count c.in_err-sum.ensures.wide))
 
 pub returns-clause-exact : goal.returns-clause-exact
 returns-clause-exact c =
-    both-even k24 exact24 (quotient_group c.args.quotient.now) c.args.left.now.weights c.args.right.now.weights c.weights-one.result.now c.weights-other.result.now c.weights-one.ensures c.weights-other.ensures
-    c.are_zero_sums.result (c.is_even.ensures.yes c.if-not-is_even.false) (c.is_even-2.ensures.yes c.if-not-is_even-2.false) c.are_zero_sums.ensures.yes c.are_zero_sums.ensures.no
-
-pub returns-clause-wide : goal.returns-clause-wide
-returns-clause-wide c =
-    told-wide k24 exact24 (quotient_group c.args.quotient.now) c.args.left.now.weights c.args.right.now.weights c.weights-one.result.now c.weights-other.result.now c.weights-one.ensures c.weights-other.ensures
-    c.are_zero_sums.result c.are_zero_sums.ensures.wide
+    let q = c.args.quotient.now in
+    let v = c.args.left.now in
+    let u = c.args.right.now in
+    let law = quotient-lawful q c.requires.left.tables.inducible.on.quotient in
+    decided k24 (quotient_group q) law (weights_by v) (weights_by u) (weights-even q u c.requires.right) c.is_zero.result (exact24 c.in_ok-sum.sum) c.is_zero.ensures
+    (c.in_ok-sum.ensures.exact ∙ given-sum k24 exact24 v.weights u.weights c.weights.result.now c.weights-2.result.now c.weights.ensures c.weights-2.ensures (order_of q) c.requires.left.count)
+    (weights-even q v c.requires.left) (weights-decide q v u c.requires.left c.requires.right)
