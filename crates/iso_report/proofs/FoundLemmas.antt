@@ -1,5 +1,5 @@
 -- What is found behind the steps that all jobs share, by the job.
-use Rattle.std.proofs.Common.{◌≡◌, ap, inr, refl, sym, subst, map, ℕ, Bool, true, false, List, Option, None, Some, Result}
+use Rattle.std.proofs.Common.{◌≡◌, refl, sym, subst, map, ℕ, Bool, true, false, List, Option, Result}
 use Rattle.std.proofs.lemmas.Bool.{true≢false}
 use Rattle.report_steps.specs.declared.context.InducedFile.{InducedFile}
 use Rattle.iso_report.specs.declared.job.Job.{Job}

@@ -4,7 +4,7 @@
 -- IsDone next out, Fails next out e: the report of a finding is written, or not
 -- Ends next out result: the one or the other
 -- IsPut text out result: a text is written, or not
-use Rattle.std.specs.Prelude.{⊤, ◌⊎◌, ℕ, List, [], Option, Result, MatchResult}
+use Rattle.std.specs.Prelude.{◌⊎◌, ℕ, List, [], Option, Result, MatchResult}
 use Rattle.iso_text.specs.Counts.{HasRisen}
 use Rattle.iso_text.specs.Streams.{GrownBy, GrownByPrefix}
 use Rattle.iso_report.specs.declared.run_error.RunError.{RunError}
