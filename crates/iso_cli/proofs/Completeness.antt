@@ -36,23 +36,23 @@ module _ (one : (job : Job) → HasOneOutcome job) (job : Job) (s : Status) (byt
     λ e. let broken = (subst (λ (t : Status). Answers job bytes t out err) e a).1 in exclude broken.0 q n broken.1 o,
   )
 
--- of the job that the words name, and of the bytes that were left
+-- of the job that the words name, and of the bytes that it takes
 module _ (named : Option Job) (job : Job) (named_is : named ≡ Some job) (P Q : Job → List ℕ → Type 0) where
-  pub of_named : (left : Option (List ℕ)) → ((bytes : List ℕ) → P job bytes → Q job bytes) → IfSome left (P job) → IfSome named (λ j. IfSome left (Q j))
-  of_named left f h = subst (λ (o : Option Job). IfSome o (λ j. IfSome left (Q j))) (sym named_is) (inner left h)
+  pub of_named : (left : Job → Option (List ℕ)) → ((bytes : List ℕ) → P job bytes → Q job bytes) → IfSome (left job) (P job) → IfSome named (λ j. IfSome (left j) (Q j))
+  of_named left f h = subst (λ (o : Option Job). IfSome o (λ j. IfSome (left j) (Q j))) (sym named_is) (inner (left job) h)
     where
       inner : (left : Option (List ℕ)) → IfSome left (P job) → IfSome left (Q job)
       inner None h = tt
       inner (Some bytes) h = f bytes h
 
-module _ (one : (job : Job) → HasOneOutcome job) (named : Option Job) (job : Job) (named_is : named ≡ Some job) (left : Option (List ℕ)) (s : Status) (out err : Change)
-    (a : IfSome left (λ bytes. Answers job bytes s out err)) where
-  pub complete_answer : IfSome named (λ j. IfSome left (λ bytes. length bytes ≤ max_bytes → IsNarrow j bytes → (r : List ℕ) → IsOutcome j bytes (report r) → s ≢ status.Refused))
+module _ (one : (job : Job) → HasOneOutcome job) (named : Option Job) (job : Job) (named_is : named ≡ Some job) (left : Job → Option (List ℕ)) (s : Status) (out err : Change)
+    (a : IfSome (left job) (λ bytes. Answers job bytes s out err)) where
+  pub complete_answer : IfSome named (λ j. IfSome (left j) (λ bytes. length bytes ≤ max_bytes → IsNarrow j bytes → (r : List ℕ) → IsOutcome j bytes (report r) → s ≢ status.Refused))
   complete_answer =
       of_named named job named_is (λ j bytes. Answers j bytes s out err) (λ j bytes. length bytes ≤ max_bytes → IsNarrow j bytes → (r : List ℕ) → IsOutcome j bytes (report r) → s ≢ status.Refused)
       left (λ bytes h. not_refused one job s bytes out err h) a
 
-  pub sound_answer : IfSome named (λ j. IfSome left (λ bytes. (r : Refusal) → IsNotWide r → IsOutcome j bytes (refused r) → (s ≢ status.Done) × (s ≢ status.WriteFault)))
+  pub sound_answer : IfSome named (λ j. IfSome (left j) (λ bytes. (r : Refusal) → IsNotWide r → IsOutcome j bytes (refused r) → (s ≢ status.Done) × (s ≢ status.WriteFault)))
   sound_answer =
       of_named named job named_is (λ j bytes. Answers j bytes s out err) (λ j bytes. (r : Refusal) → IsNotWide r → IsOutcome j bytes (refused r) → (s ≢ status.Done) × (s ≢ status.WriteFault))
       left (λ bytes h. not_reported one job s bytes out err h) a

@@ -1,7 +1,7 @@
 -- What a call of the program leaves on its streams, by its status.
 --
 -- Says line err: err has grown by the line
--- Answers job bytes status out err: the answer to a job over all the bytes that were left
+-- Answers job bytes status out err: the answer to a job over all the bytes that it takes of a source
 -- AnswersUsage status out err: the answer where the words name no job
 -- AnswersNotBuilt status out err: the answer where the words' job isn't built
 -- IsNarrow job bytes: no number of the job passes its bound on these bytes; IsNotWide r: the refusal is no such number
@@ -57,7 +57,7 @@ IsRefused job bytes err = ((max_bytes < length bytes) × Says too_long_line err)
 abbrev pub IsStopped : Job → List ℕ → Change → Type 0
 IsStopped job bytes out = Grew [] out ⊎ ((length bytes ≤ max_bytes) × IsCutShort (IsOutcome job bytes) out)
 
--- the answer to a job, by its status, over all the bytes that were left: where they are too many, it is
+-- the answer to a job, by its status, over all the bytes that it takes: where they are too many, it is
 -- the refusal of their length, a read fault or want of memory
 abbrev pub Answers : Job → List ℕ → Status → Change → Change → Type 0
 Answers job bytes status.Done out err = (length bytes ≤ max_bytes) × IsDone (IsOutcome job bytes) out × Grew [] err

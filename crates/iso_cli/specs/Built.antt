@@ -2,9 +2,11 @@
 --
 -- built_job_of words: the job of the words, where it is built
 -- HasUnbuilt words: the words have a job, and it isn't built
-use Rattle.std.specs.Prelude.{◌≡◌, false, List, Option, Some, None, if◌then◌else◌, option_and_then}
+-- reading_job_of words: the job of the words, where it is built and about the file of the source
+-- taken_by job left: all the bytes that a job takes of those that are left, where the source tells them
+use Rattle.std.specs.Prelude.{◌≡◌, ℕ, false, List, [], Option, Some, None, is_some, if◌then◌else◌, option_and_then}
 use Rattle.iso_report.specs.declared.job.Job.{Job}
-use Rattle.iso_report.specs.Jobs.{is_built}
+use Rattle.iso_report.specs.Jobs.{generated, is_built}
 use Rattle.iso_cli.specs.Options.{Text}
 use Rattle.iso_cli.specs.JobOf.{job_of}
 
@@ -16,3 +18,14 @@ built_job_of words = option_and_then if_built (job_of words)
 
 abbrev pub HasUnbuilt : List Text → Type 0
 HasUnbuilt words = (job : Job) × (job_of words ≡ Some job) × (is_built job ≡ false)
+
+-- a job about a generated file reads nothing
+abbrev pub if_reading : Job → Option Job
+if_reading job = if is_some (generated job) then None else Some job
+
+abbrev pub reading_job_of : List Text → Option Job
+reading_job_of words = option_and_then if_reading (built_job_of words)
+
+-- none, for a job about a generated file
+abbrev pub taken_by : Job → Option (List ℕ) → Option (List ℕ)
+taken_by job left = if is_some (generated job) then Some [] else left

@@ -1,13 +1,13 @@
 // The top call.
-ghost use Rattle.std.specs.Prelude.{◌≡◌, ◌≢◌, ◌+◌, ◌<◌, ◌≤◌, ◌⊎◌, [], Some, true, IfSome, IsNone, List, ℕ, length};
+ghost use Rattle.std.specs.Prelude.{◌≡◌, ◌≢◌, ◌+◌, ◌<◌, ◌≤◌, ◌⊎◌, [], Some, true, IfNone, IfSome, IsNone, IsSome, List, ℕ, length};
 ghost use Rattle.iso_text.specs.Counts.{HasRisen, raised};
 ghost use Rattle.iso_text.specs.Streams.{IsRestOf};
 ghost use Rattle.iso_report.specs.Endings.{change};
 ghost use Rattle.iso_report.specs.Outcome.{IsOutcome, report, refused};
 ghost use Rattle.report_steps.specs.Report.{line_of};
-ghost use Rattle.iso_report.specs.Jobs.{is_built};
+ghost use Rattle.iso_report.specs.Jobs.{HasNumber, generated, is_built};
 ghost use Rattle.iso_cli.specs.Answers.{Answers, AnswersNotBuilt, AnswersUsage, IsNarrow, IsNotWide, Says, SaysRefusal};
-ghost use Rattle.iso_cli.specs.Built.{HasUnbuilt, built_job_of};
+ghost use Rattle.iso_cli.specs.Built.{HasUnbuilt, built_job_of, reading_job_of, taken_by};
 ghost use Rattle.iso_cli.specs.JobOf.{job_of, texts_of};
 
 use crate::Status;
@@ -44,7 +44,7 @@ fn refuse<E: Sink>(alloc: Global, refusal: &Refusal, err: &mut E) -> Status
     }
 }
 
-// Answers a job over a file's bytes.
+// Answers a job over the bytes that it takes.
 fn answer<O: Sink, E: Sink>(
     alloc: Global,
     job: Job,
@@ -53,6 +53,7 @@ fn answer<O: Sink, E: Sink>(
     err: &mut E,
 ) -> Status
     requires built { is_built job ≡ true }
+    requires number { HasNumber job }
     requires few { length bytes.now ≤ MAX_BYTES }
     ensures answers { Answers job bytes.now result
         (change (O.written out.old) (O.written out.new) (O.faults out.old) (O.faults out.new))
@@ -79,7 +80,8 @@ fn answer_source<S: Source, O: Sink, E: Sink>(
     out: &mut O,
     err: &mut E,
 ) -> Status
-    requires { is_built job ≡ true }
+    requires built { is_built job ≡ true }
+    requires number { HasNumber job }
     ensures answers { IfSome (S.left source.old) (λ bytes. Answers job bytes result
         (change (O.written out.old) (O.written out.new) (O.faults out.old) (O.faults out.new))
         (change (E.written err.old) (E.written err.new) (E.faults err.old) (E.faults err.new))) }
@@ -102,6 +104,38 @@ fn answer_source<S: Source, O: Sink, E: Sink>(
     }
 }
 
+// Answers a job: with the source left unread, where it is about a generated file.
+fn answer_job<S: Source, O: Sink, E: Sink>(
+    alloc: Global,
+    job: Job,
+    source: &mut S,
+    out: &mut O,
+    err: &mut E,
+) -> Status
+    requires built { is_built job ≡ true }
+    requires number { HasNumber job }
+    ensures answers { IfSome (taken_by job (S.left source.old)) (λ bytes. Answers job bytes result
+        (change (O.written out.old) (O.written out.new) (O.faults out.old) (O.faults out.new))
+        (change (E.written err.old) (E.written err.new) (E.faults err.old) (E.faults err.new))) }
+    ensures unread { IsSome (generated job) → source.new ≡ source.old }
+    ensures no_read_fault { IsSome (generated job) → result ≢ Status.ReadFault }
+    ensures refused_out { result ≡ Status.Refused → out.new ≡ out.old }
+    ensures read_fault_out { result ≡ Status.ReadFault → out.new ≡ out.old }
+    ensures read_fault { result ≡ Status.ReadFault → HasRisen (S.faults source.old) (S.faults source.new) }
+    ensures write_fault { result ≡ Status.WriteFault → HasRisen (O.faults out.old) (O.faults out.new) }
+    ensures no_usage { result ≢ Status.Usage }
+    ensures drained { result ≡ Status.Done → IfNone (generated job) (IfSome (S.left source.old) (λ _. S.left source.new ≡ Some [])) }
+    ensures refused { result ≡ Status.Refused → IfNone (generated job) (IfSome (S.left source.old) (λ bytes. (MAX_BYTES < length bytes) ⊎ (S.left source.new ≡ Some []))) }
+    ensures too_long { result ≡ Status.Refused → (S.taken source.new ≡ raised (MAX_BYTES + 1) (S.taken source.old)) ⊎ ((r : Refusal) × Says (line_of r) (change (E.written err.old) (E.written err.new) (E.faults err.old) (E.faults err.new))) }
+    ensures taken { S.taken source.new ≤ S.taken source.old + (MAX_BYTES + 1) }
+    ensures rest { IsRestOf (S.left source.old) (S.left source.new) }
+{
+    match job.generated() {
+        Some(_) => answer(alloc, job, b"", out, err),
+        None => answer_source(alloc, job, source, out, err),
+    }
+}
+
 /// Answers the words over the source: the report of the definitions on out, or one line on err.
 /// `words` are without the program's name.
 ///
@@ -119,24 +153,26 @@ pub fn isodist<'a, S: Source, O: Sink, E: Sink>(
         (change (E.written err.old) (E.written err.new) (E.faults err.old) (E.faults err.new)) }
     ensures usage_only { result ≡ Status.Usage → IsNone (job_of (texts_of words.now)) }
 
-    // A job that isn't built is refused. Without a job that is built the source is left unread.
+    // A job that isn't built is refused. Without a job that is built and about the file of the source,
+    // the source is left unread.
     ensures not_built { HasUnbuilt (texts_of words.now) → AnswersNotBuilt result
         (change (O.written out.old) (O.written out.new) (O.faults out.old) (O.faults out.new))
         (change (E.written err.old) (E.written err.new) (E.faults err.old) (E.faults err.new)) }
-    ensures unread { IsNone (built_job_of (texts_of words.now)) → source.new ≡ source.old }
+    ensures unread { IsNone (reading_job_of (texts_of words.now)) → source.new ≡ source.old }
+    ensures no_read_fault { IsNone (reading_job_of (texts_of words.now)) → result ≢ Status.ReadFault }
     ensures unwritten { IsNone (built_job_of (texts_of words.now)) → out.new ≡ out.old }
 
-    // A job that is built is answered as the definitions say of all the bytes that were left.
-    ensures job { IfSome (built_job_of (texts_of words.now)) (λ job. IfSome (S.left source.old) (λ bytes. Answers job bytes result
+    // A job that is built is answered as the definitions say of all the bytes that it takes.
+    ensures job { IfSome (built_job_of (texts_of words.now)) (λ job. IfSome (taken_by job (S.left source.old)) (λ bytes. Answers job bytes result
         (change (O.written out.old) (O.written out.new) (O.faults out.old) (O.faults out.new))
         (change (E.written err.old) (E.written err.new) (E.faults err.old) (E.faults err.new)))) }
 
     // Where the definitions give a report of few enough bytes, and no number passes its bound, these are
     // not refused; where they refuse the bytes, besides such a number, no report is written, whole or in
     // part.
-    ensures complete { IfSome (built_job_of (texts_of words.now)) (λ job. IfSome (S.left source.old) (λ bytes.
+    ensures complete { IfSome (built_job_of (texts_of words.now)) (λ job. IfSome (taken_by job (S.left source.old)) (λ bytes.
         length bytes ≤ MAX_BYTES → IsNarrow job bytes → (r : List ℕ) → IsOutcome job bytes (report r) → result ≢ Status.Refused)) }
-    ensures sound { IfSome (built_job_of (texts_of words.now)) (λ job. IfSome (S.left source.old) (λ bytes.
+    ensures sound { IfSome (built_job_of (texts_of words.now)) (λ job. IfSome (taken_by job (S.left source.old)) (λ bytes.
         (r : Refusal) → IsNotWide r → IsOutcome job bytes (refused r) → (result ≢ Status.Done) × (result ≢ Status.WriteFault))) }
 
     // Over all streams: out is as it was after a refusal and a read fault, and each fault has its count.
@@ -145,9 +181,9 @@ pub fn isodist<'a, S: Source, O: Sink, E: Sink>(
     ensures read_fault { result ≡ Status.ReadFault → HasRisen (S.faults source.old) (S.faults source.new) }
     ensures write_fault { result ≡ Status.WriteFault → HasRisen (O.faults out.old) (O.faults out.new) }
 
-    // What was read: all that was left, but of a file that is too long.
-    ensures drained { result ≡ Status.Done → IfSome (S.left source.old) (λ _. S.left source.new ≡ Some []) }
-    ensures refused { result ≡ Status.Refused → IfSome (built_job_of (texts_of words.now)) (λ _. IfSome (S.left source.old) (λ bytes. (MAX_BYTES < length bytes) ⊎ (S.left source.new ≡ Some []))) }
+    // What a job about the file of the source has read: all that was left, but of a file that is too long.
+    ensures drained { result ≡ Status.Done → IfSome (reading_job_of (texts_of words.now)) (λ _. IfSome (S.left source.old) (λ _. S.left source.new ≡ Some [])) }
+    ensures refused { result ≡ Status.Refused → IfSome (reading_job_of (texts_of words.now)) (λ _. IfSome (S.left source.old) (λ bytes. (MAX_BYTES < length bytes) ⊎ (S.left source.new ≡ Some []))) }
     ensures too_long { result ≡ Status.Refused → (S.taken source.new ≡ raised (MAX_BYTES + 1) (S.taken source.old)) ⊎ ((r : Refusal) × Says (line_of r) (change (E.written err.old) (E.written err.new) (E.faults err.old) (E.faults err.new))) }
     ensures taken { S.taken source.new ≤ S.taken source.old + (MAX_BYTES + 1) }
     ensures rest { IsRestOf (S.left source.old) (S.left source.new) }
@@ -155,7 +191,7 @@ pub fn isodist<'a, S: Source, O: Sink, E: Sink>(
     match read_words(alloc, words) {
         Ok(Some(job)) if job.is_built() => {
             law_of_outcomes();
-            answer_source(alloc, job, source, out, err)
+            answer_job(alloc, job, source, out, err)
         }
         Ok(Some(_)) => refuse(alloc, &Refusal::NotBuilt, err),
         Ok(None) => say(err, usage_line().as_bytes(), Status::Usage),

@@ -1,7 +1,8 @@
 // The job of the words.
-ghost use Rattle.std.specs.Prelude.{◌≡◌, IfOk, List};
+ghost use Rattle.std.specs.Prelude.{◌≡◌, IfOk, IfSome, List};
 ghost use Rattle.clap.specs.Faults.{fault_of};
 ghost use Rattle.clap.specs.Kinds.{HasKind};
+ghost use Rattle.iso_report.specs.Jobs.{HasNumber};
 ghost use Rattle.iso_cli.specs.Options.{Text};
 ghost use Rattle.iso_cli.specs.Commands.{Texts, demo_job, job_by, job_named, modes_job};
 ghost use Rattle.iso_cli.specs.Values.{IsValues};
@@ -21,7 +22,8 @@ const DEMO_FILES: u64 = 64;
 
 // The job of `modes`; an irrep wants a direction beside it.
 fn modes_job(irrep: Option<Name>, direction: Option<u64>) -> Option<Job>
-    ensures { result ≡ modes_job irrep direction }
+    ensures job { result ≡ modes_job irrep direction }
+    ensures number { IfSome result HasNumber }
 {
     match (irrep, direction) {
         (irrep, Some(n)) => Some(Job::Modes {
@@ -34,7 +36,8 @@ fn modes_job(irrep: Option<Name>, direction: Option<u64>) -> Option<Job>
 
 // The job of `demo`.
 fn demo_job(number: u64) -> Option<Job>
-    ensures { result ≡ demo_job number }
+    ensures job { result ≡ demo_job number }
+    ensures number { IfSome result HasNumber }
 {
     if number < DEMO_FILES {
         Some(Job::Demo {
@@ -47,7 +50,8 @@ fn demo_job(number: u64) -> Option<Job>
 
 // The job of a command with what its options give.
 fn job_named(command: &str, values: Values) -> Option<Job>
-    ensures { (given : Texts) → IsValues given values → result ≡ job_named given command.now }
+    ensures job { (given : Texts) → IsValues given values → result ≡ job_named given command.now }
+    ensures number { IfSome result HasNumber }
 {
     let Values {
         irrep,
@@ -87,7 +91,8 @@ fn job_named(command: &str, values: Values) -> Option<Job>
 
 // The job of what `clap` found.
 fn job(found: &ArgMatches<'_>) -> Option<Job>
-    ensures { result ≡ job_by (texts_in found.now) }
+    ensures job { result ≡ job_by (texts_in found.now) }
+    ensures number { IfSome result HasNumber }
 {
     let command = text(found, "command")?;
     match read_values(found, command) {
@@ -98,7 +103,8 @@ fn job(found: &ArgMatches<'_>) -> Option<Job>
 
 // The answer where `clap` refuses the words: usage, if it was not for want of memory.
 fn refused(error: &Error) -> Result<Option<Job>, NoMemory>
-    ensures { (words : List Text) → HasKind (fault_of program words) error.now → IfOk result (λ job. job ≡ job_of words) }
+    ensures job { (words : List Text) → HasKind (fault_of program words) error.now → IfOk result (λ job. job ≡ job_of words) }
+    ensures number { IfOk result (λ job. IfSome job HasNumber) }
 {
     if error.kind() == ErrorKind::OutOfMemory {
         Err(NoMemory)
@@ -111,6 +117,7 @@ fn refused(error: &Error) -> Result<Option<Job>, NoMemory>
 pub(crate) fn read_words(alloc: Global, words: &[&str]) -> Result<Option<Job>, NoMemory>
     ensures value { IfOk result (λ job. job ≡ job_of (texts_of words.now)) }
     ensures means { IfOk result (IsMeaning (texts_of words.now)) }
+    ensures number { IfOk result (λ job. IfSome job HasNumber) }
 {
     match find_matches(alloc, words) {
         Ok(found) => Ok(job(&found)),

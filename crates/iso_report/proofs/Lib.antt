@@ -4,3 +4,4 @@ pub mod FoundLemmas
 pub mod FractionLemmas
 pub mod OutcomeLemmas
 pub mod ReportLemmas
+pub mod SourceLemmas

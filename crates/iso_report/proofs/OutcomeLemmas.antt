@@ -1,4 +1,4 @@
--- A file's bytes have one outcome.
+-- The bytes of a source have one outcome.
 use Rattle.std.proofs.Common.{◌≡◌, ap, ◌∙◌, sym, subst, ℕ, ℤ, pos, ◌≤ℤ◌, ◌<ℤ◌, List, Option, Some, None, IfSome, unwrap_or, true, false, arith}
 use Rattle.std.proofs.lemmas.Int.{ints}
 use Rattle.iso_text.specs.FileValue.{File}
@@ -8,7 +8,8 @@ use Rattle.super_group.specs.Quotient.{SupercellGroup, IsQuotient}
 use Rattle.iso_report.specs.declared.job.Job.{Job}
 use Rattle.iso_report.specs.declared.job.Job.TheVariants as job
 use Rattle.iso_report.specs.Check.{check_text}
-use Rattle.iso_report.specs.Outcome.{IsChecked, IsFound, AfterReps, AfterOrder, AfterPhases, AfterParent, AfterText}
+use Rattle.iso_report.specs.Outcome.{IsChecked, IsFound, AfterReps, AfterOrder, AfterPhases, AfterParent, AfterText, IsFoundIn, AreBytes}
+use Rattle.iso_report.specs.Jobs.{generated}
 use Rattle.iso_report.specs.OutcomeLaws.{HasOneOutcome}
 use Rattle.report_steps.specs.Contexts.{Parented, Divided}
 use Rattle.report_steps.specs.Finding.{report}
@@ -23,6 +24,8 @@ use Rattle.amp_report.specs.AmpsFound.{AreAmpsFound}
 use Rattle.couple_report.specs.CoupleFound.{IsCoupleFound}
 use Rattle.couple_report.specs.LinkFound.{IsLinkFound}
 use Rattle.apart_report.specs.ApartFound.{AreApartFound}
+use Rattle.demo_files.specs.Demo.{IsDemoFile}
+use Rattle.demo_report.specs.DemoFound.{IsDemoFound}
 use Rattle.mode_report.specs.ModesFound.{AreWideAll, AreToldOf, IsReported, AreModesFound}
 
 -- the tolerance of a file is below a quarter of a cell edge
@@ -53,6 +56,8 @@ pub record AreSettled : Type 0 where
   pub couple : (d : Divided) → IsQuotient d.quotient → (wanted : Option (List ℕ)) (other : List ℕ) (after : ℕ) (count : Option ℕ) → FindsOneAt (IsCoupleFound wanted other after count) d
   pub link : (d : Divided) → IsQuotient d.quotient → (wanted : Option (List ℕ)) (other : List ℕ) → FindsOneAt (IsLinkFound wanted other) d
   pub apart : (d : Divided) → IsQuotient d.quotient → FindsOneAt AreApartFound d
+  pub demo : (d : Divided) → IsQuotient d.quotient → (number : ℕ) → FindsOneAt (IsDemoFound number) d
+  pub file : (number : ℕ) (s t : List ℕ) → IsDemoFile number s → IsDemoFile number t → s ≡ t
 
 module _ (s : AreSettled) (j : Job) where
   module _ (d : Divided) (h : IsQuotient d.quotient) (small : HasSmallTolerance d.file) where
@@ -72,7 +77,7 @@ module _ (s : AreSettled) (j : Job) where
     job-found (job.Couple wanted other after count) f g a b u v = s.couple d h wanted other after count f g a b u v
     job-found (job.Link wanted other) f g a b u v = s.link d h wanted other f g a b u v
     job-found job.Apart f g a b u v = s.apart d h f g a b u v
-    job-found (job.Demo number) f g a b u v = absurd a
+    job-found (job.Demo number) f g a b u v = s.demo d h number f g a b u v
 
     induced-found : FindsOneAt (AfterReps j) d
     induced-found =
@@ -99,5 +104,15 @@ module _ (s : AreSettled) (j : Job) where
       After-single-at RefusesParent never IsParented (AfterParent j) file (single-at RefusesParent IsParented s.parent file)
       (λ p w. phases-found p (subst HasSmallTolerance (sym w.4) small))
 
+  bytes-found : (bytes : List ℕ) → FindsOneAt (IsFoundIn j) bytes
+  bytes-found bytes = After-single-at RefusesText never IsRead (AfterText j) bytes (single-at RefusesText IsRead s.text bytes) (λ file w. parent-found file (s.tolerance bytes file w))
+
+  -- the bytes of the file that a job is about are one
+  bytes-one : (number : Option ℕ) (source bytes other : List ℕ) → AreBytes number source bytes → AreBytes number source other → bytes ≡ other
+  bytes-one None source bytes other a b = a ∙ sym b
+  bytes-one (Some number) source bytes other a b = s.file number bytes other a b
+
   pub outcome-one : HasOneOutcome j
-  outcome-one bytes = After-single-at RefusesText never IsRead (AfterText j) bytes (single-at RefusesText IsRead s.text bytes) (λ file w. parent-found file (s.tolerance bytes file w))
+  outcome-one source f g (bytes, a, x) (other, b, y) u v =
+      let P : List ℕ → Type 0 = λ z. IsFoundIn j z g in
+      bytes-found bytes f g x (subst P (sym (bytes-one (generated j) source bytes other a b)) y) u v

@@ -1,6 +1,6 @@
--- What the definition of an outcome settles, for any file's bytes.
+-- What the definition of an outcome settles, for any bytes of a source.
 --
--- HasOneOutcome job: a job finds at most one thing in the bytes of a file, besides numbers that pass their bound
+-- HasOneOutcome job: a job finds at most one thing for the bytes of a source, besides numbers that pass their bound
 use Rattle.std.specs.Prelude.{◌≡◌, ℕ, List}
 use Rattle.iso_report.specs.declared.job.Job.{Job}
 use Rattle.report_steps.specs.Finding.{Finding}
@@ -8,4 +8,4 @@ use Rattle.iso_report.specs.Outcome.{IsOutcome}
 use Rattle.report_steps.specs.StepLaws.{IsNoWide}
 
 abbrev pub HasOneOutcome : Job → Type 0
-HasOneOutcome job = (bytes : List ℕ) (f g : Finding) → IsOutcome job bytes f → IsOutcome job bytes g → IsNoWide f → IsNoWide g → f ≡ g
+HasOneOutcome job = (source : List ℕ) (f g : Finding) → IsOutcome job source f → IsOutcome job source g → IsNoWide f → IsNoWide g → f ≡ g

@@ -11,12 +11,14 @@ ghost use Rattle.amp_report.specs.AmpsFound.{AreAmpsFound};
 ghost use Rattle.couple_report.specs.CoupleFound.{IsCoupleFound};
 ghost use Rattle.couple_report.specs.LinkFound.{IsLinkFound};
 ghost use Rattle.apart_report.specs.ApartFound.{AreApartFound};
+ghost use Rattle.demo_report.specs.DemoFound.{IsDemoFound};
 
 use crate::check::check_report;
 use crate::run_error::RunError;
 use amp_report::{amps_found, amps_report};
 use apart_report::{apart_found, apart_report};
 use couple_report::{couple_found, couple_report, link_found, link_report};
+use demo_report::{demo_found, demo_report};
 use iso_text::{Name, NoMemory, Sink, Text, put_all};
 use list_report::{list_found, listed_text};
 use mode_report::{along_report, modes_along, modes_found, modes_text_of};
@@ -179,6 +181,26 @@ pub fn found_apart<O: Sink>(alloc: Global, file: InducedFile, out: &mut O) -> Re
 {
     match apart_found(alloc, file) {
         Ok(Step::Passed(pairs)) => put_text(apart_report(alloc, &pairs), out),
+        Ok(Step::Refused(refusal)) => Err(RunError::Refused(refusal)),
+        Err(_) => Err(RunError::NoMemory),
+    }
+}
+
+/// Writes the summary of a generated file under its number, or says why there is none.
+pub fn found_demo<O: Sink>(
+    alloc: Global,
+    file: InducedFile,
+    number: u8,
+    out: &mut O,
+) -> Result<(), RunError>
+    requires held { AreInducedHeld file }
+    requires ranged { IsInRange file.divided.file }
+    ensures answer { Ends (IsDemoFound number file.divided) (change (O.written out.old) (O.written out.new) (O.faults out.old) (O.faults out.new)) result }
+    ensures untouched { (r : Refusal) → IsErrOf result (RunError.Refused r) → out.new ≡ out.old }
+    ensures faults { O.faults out.old ≤ O.faults out.new }
+{
+    match demo_found(alloc, file, number) {
+        Ok(Step::Passed(demo)) => put_text(demo_report(alloc, &demo), out),
         Ok(Step::Refused(refusal)) => Err(RunError::Refused(refusal)),
         Err(_) => Err(RunError::NoMemory),
     }

@@ -1,6 +1,6 @@
 // What the words of the command line ask for.
 ghost use Rattle.std.specs.Prelude.{◌≡◌};
-ghost use Rattle.iso_report.specs.Jobs.{is_built};
+ghost use Rattle.iso_report.specs.Jobs.{is_built, generated};
 
 use iso_text::Name;
 
@@ -48,7 +48,7 @@ pub enum Job {
 }
 
 impl Job {
-    /// Whether the job is built so far: all but `list` with a tally, and `demo`.
+    /// Whether the job is built so far: all but `list` with a tally.
     pub fn is_built(&self) -> bool
         ensures value { result ≡ is_built self.now }
     {
@@ -60,7 +60,24 @@ impl Job {
             Job::Couple { .. } => true,
             Job::Link { .. } => true,
             Job::Apart => true,
-            Job::Demo { .. } => false,
+            Job::Demo { .. } => true,
+        }
+    }
+
+    /// The number of the generated file that the job is about, none where it is about the file of the
+    /// source.
+    pub fn generated(&self) -> Option<u8>
+        ensures { result ≡ generated self.now }
+    {
+        match self {
+            Job::Check => None,
+            Job::List { .. } => None,
+            Job::Modes { .. } => None,
+            Job::Amps => None,
+            Job::Couple { .. } => None,
+            Job::Link { .. } => None,
+            Job::Apart => None,
+            Job::Demo { number } => Some(*number),
         }
     }
 }

@@ -5,12 +5,14 @@ use crate::job::Job;
 use amp_report::law_of_amps_found;
 use apart_report::law_of_apart_found;
 use couple_report::{law_of_couple_found, law_of_link_found};
+use demo_files::law_of_demo_files;
+use demo_report::law_of_demo_found;
 use iso_text::law_of_ranges;
 use list_report::law_of_list;
 use mode_report::{law_of_modes_along, law_of_modes_found};
 use report_steps::{law_of_irreps, law_of_steps};
 
-/// Each job finds at most one thing in the bytes of a file.
+/// Each job finds at most one thing for the bytes of a source.
 pub fn law_of_outcomes()
     ensures { (job : Job) → HasOneOutcome job }
 {
@@ -24,4 +26,6 @@ pub fn law_of_outcomes()
     law_of_couple_found();
     law_of_link_found();
     law_of_apart_found();
+    law_of_demo_files();
+    law_of_demo_found();
 }

@@ -1,4 +1,4 @@
-//! The report of a job over a file's bytes, or the refusal that the definitions give.
+//! The report of a job over the bytes of a source, or the refusal that the definitions give.
 //!
 //! Conventions: an operation is x' = R x + t with t in twelfths of a cell edge; elements are numbered
 //! from 0, directions from 1. The layer above uses `run`.

@@ -1,17 +1,19 @@
-// A job over a file's bytes.
-ghost use Rattle.std.specs.Prelude.{◌≡◌, ◌≤◌, true, length, IsErrOf};
+// A job over the bytes of a source.
+ghost use Rattle.std.specs.Prelude.{◌≡◌, ◌<◌, ◌≤◌, ℕ, true, List, length, IsErrOf};
 ghost use Rattle.iso_report.specs.Endings.{Ends, change};
-ghost use Rattle.iso_report.specs.Jobs.{is_built};
+ghost use Rattle.iso_report.specs.Jobs.{HasNumber, is_built};
 ghost use Rattle.iso_text.specs.Ranges.{IsInRange};
 ghost use Rattle.report_steps.specs.HeldFiles.{AreStarsHeld, AreCellsHeld, AreRepsHeld, AreInducedHeld};
-ghost use Rattle.iso_report.specs.Outcome.{IsFound, AfterText, AfterParent, AfterPhases, AfterOrder, AfterReps, IsOutcome};
+ghost use Rattle.iso_report.specs.Outcome.{IsFound, AfterText, AfterParent, AfterPhases, AfterOrder, AfterReps, IsFoundIn, IsOutcome};
+ghost use Rattle.demo_files.specs.Demo.{IsDemoFile};
 
 use crate::found::{
-    found_along, found_amplitudes, found_apart, found_checked, found_couple, found_link,
-    found_listing, found_modes,
+    found_along, found_amplitudes, found_apart, found_checked, found_couple, found_demo,
+    found_link, found_listing, found_modes,
 };
 use crate::job::Job;
 use crate::run_error::RunError;
+use demo_files::{demo_file, law_of_demo_files};
 use iso_text::{Document, MAX_BYTES, Name, Sink};
 use report_steps::{
     Celled, InducedFile, Parented, Refusal, Represented, Starred, Step, divide, induced_of,
@@ -70,7 +72,7 @@ fn after_induced<O: Sink>(
         } => found_couple(alloc, file, *irrep, *other, *after, *count, out),
         Job::Link { irrep, other } => found_link(alloc, file, *irrep, *other, out),
         Job::Apart => found_apart(alloc, file, out),
-        Job::Demo { .. } => unreachable!(),
+        Job::Demo { number } => found_demo(alloc, file, *number, out),
     }
 }
 
@@ -177,15 +179,11 @@ fn after_text<O: Sink>(
     }
 }
 
-/// Writes the report of a job over a file's bytes on out, or says why not. A job that is built, and
-/// at most `MAX_BYTES` bytes.
-///
-/// After a refusal out is as it was. After a failed write out has a prefix of the report, and
-/// counted a fault; after want of memory nothing or a prefix of the report.
-pub fn run<O: Sink>(alloc: Global, job: &Job, bytes: &[u8], out: &mut O) -> Result<(), RunError>
+// What is found in the bytes of a file.
+fn run_over<O: Sink>(alloc: Global, job: &Job, bytes: &[u8], out: &mut O) -> Result<(), RunError>
     requires built { is_built job.now ≡ true }
     requires few { length bytes.now ≤ MAX_BYTES }
-    ensures answer { Ends (IsOutcome job.now bytes.now) (change (O.written out.old) (O.written out.new) (O.faults out.old) (O.faults out.new)) result }
+    ensures answer { Ends (IsFoundIn job.now bytes.now) (change (O.written out.old) (O.written out.new) (O.faults out.old) (O.faults out.new)) result }
     ensures untouched { (r : Refusal) → IsErrOf result (RunError.Refused r) → out.new ≡ out.old }
     ensures faults { O.faults out.old ≤ O.faults out.new }
 {
@@ -193,5 +191,40 @@ pub fn run<O: Sink>(alloc: Global, job: &Job, bytes: &[u8], out: &mut O) -> Resu
         Ok(Step::Passed(document)) => after_text(alloc, job, document, out),
         Ok(Step::Refused(refusal)) => Err(RunError::Refused(refusal)),
         Err(_) => Err(RunError::NoMemory),
+    }
+}
+
+// What is found in the generated file of a number.
+fn run_generated<O: Sink>(alloc: Global, job: &Job, number: u8, out: &mut O) -> Result<(), RunError>
+    requires built { is_built job.now ≡ true }
+    requires number { number < 64 }
+    ensures answer { Ends (λ f. (bytes : List ℕ) × IsDemoFile number bytes × IsFoundIn job.now bytes f) (change (O.written out.old) (O.written out.new) (O.faults out.old) (O.faults out.new)) result }
+    ensures untouched { (r : Refusal) → IsErrOf result (RunError.Refused r) → out.new ≡ out.old }
+    ensures faults { O.faults out.old ≤ O.faults out.new }
+{
+    law_of_demo_files();
+    match demo_file(alloc, number) {
+        Ok(text) => run_over(alloc, job, text.as_slice(), out),
+        Err(_) => Err(RunError::NoMemory),
+    }
+}
+
+/// Writes the report of a job on out, or says why not: over the bytes of a source, or over those of
+/// the generated file that the job is about, whatever the source has. A job that is built, a number
+/// of a generated file below 64, and at most `MAX_BYTES` bytes.
+///
+/// After a refusal out is as it was. After a failed write out has a prefix of the report, and
+/// counted a fault; after want of memory nothing or a prefix of the report.
+pub fn run<O: Sink>(alloc: Global, job: &Job, bytes: &[u8], out: &mut O) -> Result<(), RunError>
+    requires built { is_built job.now ≡ true }
+    requires number { HasNumber job.now }
+    requires few { length bytes.now ≤ MAX_BYTES }
+    ensures answer { Ends (IsOutcome job.now bytes.now) (change (O.written out.old) (O.written out.new) (O.faults out.old) (O.faults out.new)) result }
+    ensures untouched { (r : Refusal) → IsErrOf result (RunError.Refused r) → out.new ≡ out.old }
+    ensures faults { O.faults out.old ≤ O.faults out.new }
+{
+    match job.generated() {
+        Some(number) => run_generated(alloc, job, number, out),
+        None => run_over(alloc, job, bytes, out),
     }
 }

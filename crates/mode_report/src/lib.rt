@@ -29,5 +29,6 @@ pub use direction_form::formed_of;
 pub use found::{FoundModes, modes_found, modes_text_of};
 pub use laws::{law_of_modes_along, law_of_modes_found};
 pub use orbit_modes::all_modes;
+pub use orbit_text::{counts_text, push_orbit_head};
 pub use report::modes_report;
 pub use weights::weights_of;

@@ -1,5 +1,6 @@
 use Rattle.std.proofs.Common.{sym, ◌∙◌, inr}
 use Rattle.report_steps.specs.declared.refusal.Refusal.TheVariants as refusal
+use Rattle.iso_cli.specs.Built.{taken_by}
 use Rattle.iso_cli.specs.JobOf.{texts_of}
 use Rattle.iso_cli.proofs.Completeness.{complete_answer, sound_answer}
 use Rattle.iso_cli.proofs.Lines.{grew_nothing, says_no_memory, says_same}
@@ -9,12 +10,12 @@ use Rattle.iso_cli.proofs.top.isodist.Goals as goal
 pub returns-in-Ok-Some-clause-complete : goal.returns-in-Ok-Some-clause-complete
 returns-in-Ok-Some-clause-complete g c =
     let built = built_some (texts_of c.args.words.now) c.in-Ok-Some.field-0 c.in-Ok-Some.job (rw c.in-Ok-Some.is at c.read_words.ensures.value) c.in-Ok-Some.field-0-is (sym c.is_built.ensures.value ∙ c.if-is_built.true) in
-    complete_answer c.law_of_outcomes.ensures _ c.in-Ok-Some.job built (g.S.Source.left c.args.source.now) _ _ _ c.answer_source.ensures.answers
+    complete_answer c.law_of_outcomes.ensures _ c.in-Ok-Some.job built (λ j. taken_by j (g.S.Source.left c.args.source.now)) _ _ _ c.answer_job.ensures.answers
 
 pub returns-in-Ok-Some-clause-sound : goal.returns-in-Ok-Some-clause-sound
 returns-in-Ok-Some-clause-sound g c =
     let built = built_some (texts_of c.args.words.now) c.in-Ok-Some.field-0 c.in-Ok-Some.job (rw c.in-Ok-Some.is at c.read_words.ensures.value) c.in-Ok-Some.field-0-is (sym c.is_built.ensures.value ∙ c.if-is_built.true) in
-    sound_answer c.law_of_outcomes.ensures _ c.in-Ok-Some.job built (g.S.Source.left c.args.source.now) _ _ _ c.answer_source.ensures.answers
+    sound_answer c.law_of_outcomes.ensures _ c.in-Ok-Some.job built (λ j. taken_by j (g.S.Source.left c.args.source.now)) _ _ _ c.answer_job.ensures.answers
 
 pub returns-in-Ok-Some-2-clause-not_built : goal.returns-in-Ok-Some-2-clause-not_built
 returns-in-Ok-Some-2-clause-not_built g c =

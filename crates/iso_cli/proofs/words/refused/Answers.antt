@@ -4,8 +4,8 @@ use Rattle.clap.specs.declared.error.kind.ErrorKind.TheVariants as kind
 use Rattle.iso_cli.proofs.ClapJob.{usage_job}
 use Rattle.iso_cli.proofs.words.refused.Goals as goal
 
-pub returns-else-eq : goal.returns-else-eq
-returns-else-eq c =
+pub returns-else-eq-clause-job : goal.returns-else-eq-clause-job
+returns-else-eq-clause-job c =
     let other : kind_of c.args.error.now ≡ kind.OutOfMemory → ⊥ = λ e.
     let k : c.kind.result ≡ kind.OutOfMemory = c.kind.ensures ∙ e in
     let t : c.eq.result ≡ true = rw k at c.eq.ensures in

@@ -22,4 +22,6 @@ returns c =
       couple = c.law_of_couple_found.ensures;
       link = c.law_of_link_found.ensures;
       apart = c.law_of_apart_found.ensures;
+      demo = c.law_of_demo_found.ensures;
+      file = c.law_of_demo_files.ensures.one;
     })

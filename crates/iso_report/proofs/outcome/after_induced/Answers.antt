@@ -28,3 +28,6 @@ returns-in-Link-clause-answer g c =
 
 pub returns-in-Apart-clause-answer : goal.returns-in-Apart-clause-answer
 returns-in-Apart-clause-answer g c = job-ends c.args.job.now c.args.file.divided _ c.found_apart.result job.Apart c.in-Apart.is c.found_apart.ensures.answer
+
+pub returns-in-Demo-clause-answer : goal.returns-in-Demo-clause-answer
+returns-in-Demo-clause-answer g c = job-ends c.args.job.now c.args.file.divided _ c.found_demo.result (job.Demo c.in-Demo.number) c.in-Demo.is c.found_demo.ensures.answer

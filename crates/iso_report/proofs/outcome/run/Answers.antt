@@ -1,17 +1,11 @@
-use Rattle.iso_report.specs.Outcome.{AfterText}
-use Rattle.report_steps.specs.Stages.{RefusesText, IsRead}
-use Rattle.report_steps.specs.Steps.{never}
-use Rattle.iso_report.proofs.EndingLemmas.{grown_by_nothing, step-refused, step-ends}
+use Rattle.iso_report.proofs.SourceLemmas.{source-ends, generated-ends, number-below}
 use Rattle.iso_report.proofs.outcome.run.Goals as goal
 
-pub after_text-requires-clause-held : goal.after_text-requires-clause-held
-after_text-requires-clause-held g c = rw c.in-Ok-Passed.field-0-is at c.in-Ok-Passed.ensures.ranges
+pub run_generated-requires-clause-number : goal.run_generated-requires-clause-number
+run_generated-requires-clause-number g c = number-below c.args.job.now c.in-Some.number c.requires.number c.in-Some.ensures
 
-pub returns-in-Ok-Passed-clause-answer : goal.returns-in-Ok-Passed-clause-answer
-returns-in-Ok-Passed-clause-answer g c =
-    let passed = rw c.in-Ok-Passed.field-0-is at c.in-Ok-Passed.ensures.answer in
-    step-ends RefusesText never IsRead (AfterText c.args.job.now) c.args.bytes.now c.in-Ok-Passed.document passed _ c.after_text.result c.after_text.ensures.answer
+pub returns-in-Some-clause-answer : goal.returns-in-Some-clause-answer
+returns-in-Some-clause-answer g c = generated-ends c.args.job.now _ c.run_generated.result c.args.bytes.now c.in-Some.number c.in-Some.ensures c.run_generated.ensures.answer
 
-pub returns-in-Ok-Refused-clause-answer : goal.returns-in-Ok-Refused-clause-answer
-returns-in-Ok-Refused-clause-answer g c =
-    (step-refused RefusesText never IsRead (AfterText c.args.job.now) c.args.bytes.now c.in-Ok-Refused.refusal (rw c.in-Ok-Refused.field-0-is at c.in-Ok-Refused.ensures.answer), grown_by_nothing (g.O.Sink.written c.args.out.now))
+pub returns-in-None-clause-answer : goal.returns-in-None-clause-answer
+returns-in-None-clause-answer g c = source-ends c.args.job.now _ c.run_over.result c.args.bytes.now c.in-None.ensures c.run_over.ensures.answer

@@ -1,0 +1,4 @@
+pub mod ChoiceLemmas
+pub mod ListingLemmas
+pub mod OrbitLemmas
+pub mod UniqueLemmas
