@@ -1,4 +1,4 @@
-use Rattle.std.proofs.Common.{◌+◌, ◌++◌, ◌∙◌, ◌<◌, ◌≤◌, length, flat_map, ap, arith}
+use Rattle.std.proofs.Common.{◌++◌, ◌∙◌, ◌<◌, ◌≤◌, length, flat_map, ap, arith}
 use Rattle.std.proofs.lemmas.List.{take_all}
 use Rattle.demo_report.specs.DemoReport.{order_word}
 use Rattle.demo_report.proofs.ListingLemmas.{orders_in, orders-more}

@@ -1,0 +1,25 @@
+use Rattle.std.proofs.Common.{◌∙◌, ◌++◌, List, sym, ap}
+use Rattle.iso_text.specs.FileValue.{File}
+use Rattle.super_group.specs.Quotient.{order_of}
+use Rattle.mode_project.specs.ModesView.{ModesView}
+use Rattle.mode_report.specs.Held.{told_in}
+use Rattle.demo_report.specs.DemoReport.{orbit_lines, summary_text}
+use Rattle.demo_report.proofs.ListingLemmas.{orders_in, orders-length}
+use Rattle.demo_report.proofs.OrbitLemmas.{summary-joined}
+use Rattle.demo_report.proofs.report.demo_report.Goals as goal
+
+pub returns : goal.returns
+returns c =
+    let x = c.args.found.now in
+    let irreps = x.file.divided.file.irreps in
+    let orders = orders_in x.listing in
+    let told = told_in irreps x.modes.orbits x.modes.modes.items in
+    let count = c.len.ensures ∙ sym (orders-length x.listing) in
+    let size = c.in_ok-push.ensures.ok ∙ ap (λ t. c.in_ok-text.text ++ t) (c.as_slice.ensures ∙ c.in_ok-size.ensures) in
+    let counted = c.in_ok-push-2.ensures.ok ∙ ap (λ t. c.push.new.self ++ t) (c.as_slice-2.ensures ∙ c.in_ok-count.ensures) in
+    let listed = c.in_ok-push-3.ensures.ok ∙ ap (λ t. c.push-2.new.self ++ t) (c.as_slice-3.ensures ∙ c.in_ok-orders.ensures) in
+    let lines = c.in_ok-push_orbits.ensures irreps ∙ ap (λ (all : List ModesView). c.push-3.new.self ++ orbit_lines (told_in irreps x.modes.orbits all)) c.deref.ensures.value in
+    let format = c.format.ensures ∙ ap (λ (f : File). f.format) c.document.ensures in
+    let order = c.order.ensures.value ∙ ap order_of c.quotient.ensures in
+    summary-joined c.format.result x.number c.order.result x.dim c.len.result orders told c.in_ok-text.text c.push.new.self c.push-2.new.self c.push-3.new.self c.push_orbits.new.text count c.in_ok-text.ensures size counted listed lines
+    ∙ (λ i. summary_text (format i) x.number (order i) x.dim orders told)
