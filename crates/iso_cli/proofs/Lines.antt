@@ -1,6 +1,7 @@
 -- What is said and what is left unwritten, by the status.
-use Rattle.std.proofs.Common.{◌≡◌, ℕ, ◌<◌, ◌≤◌, ◌⊎◌, inl, inr, List, [], Option, Some, None, IfSome, length, refl, sym, ap, subst}
+use Rattle.std.proofs.Common.{◌≡◌, ◌∙◌, ℕ, ◌<◌, ◌≤◌, ◌⊎◌, inl, inr, List, [], Option, Some, None, IfSome, length, refl, sym, ap, subst}
 use Rattle.std.proofs.lemmas.List.{append-nil}
+use Rattle.iso_text.specs.Streams.{IsRestOf}
 use Rattle.iso_report.specs.Endings.{Change, Grew, IsBrokenOff, IsCutShort, change}
 use Rattle.iso_report.specs.Outcome.{IsOutcome, refused}
 use Rattle.report_steps.specs.Report.{line_of}
@@ -68,3 +69,14 @@ pub long_answer : (job : Job) (left written : Option (List ℕ)) (faults : ℕ) 
     → IfSome left (λ bytes. Answers job bytes s (change written written faults faults) err)
 long_answer job None written faults s err e l said = tt
 long_answer job (Some bytes) written faults s err e l said = subst (λ t. Answers job bytes t (change written written faults faults) err) (sym e) (grew_nothing written faults faults, inl (l, said))
+
+-- the answer over all the bytes that were left
+pub whole_answer : (job : Job) (left : Option (List ℕ)) (bytes taken : List ℕ) (s : Status) (out err : Change) → IfSome left (λ all. taken ≡ all) → bytes ≡ taken → Answers job bytes s out err
+    → IfSome left (λ all. Answers job all s out err)
+whole_answer job None bytes taken s out err e d a = tt
+whole_answer job (Some all) bytes taken s out err e d a = subst (λ t. Answers job t s out err) (d ∙ e) a
+
+-- of a source that was left unread
+pub rest_unread : (left : Option (List ℕ)) → IsRestOf left left
+rest_unread None = tt
+rest_unread (Some bytes) = (0, refl)

@@ -1,13 +1,13 @@
--- What is answered to the words: the job that is built, what it takes of a source, and want of memory for reading them.
-use Rattle.std.proofs.Common.{◌≡◌, ◌∙◌, ℕ, true, List, [], Option, Some, None, IfSome, refl, sym, ap, subst}
-use Rattle.std.specs.Prelude.{IfNone, IsNone, IsSome, is_some, if◌then◌else◌, option_and_then}
+-- What is answered to the words: the job that is built, and want of memory for reading them.
+use Rattle.std.proofs.Common.{◌≡◌, ◌∙◌, ℕ, true, List, Option, Some, None, IfSome, refl, sym, ap, subst}
+use Rattle.std.specs.Prelude.{option_and_then}
 use Rattle.iso_report.specs.Endings.{Change, change}
-use Rattle.iso_report.specs.Jobs.{generated, is_built}
+use Rattle.iso_report.specs.Jobs.{is_built}
 use Rattle.iso_report.specs.declared.job.Job.{Job}
 use Rattle.report_steps.specs.Report.{line_of}
 use Rattle.report_steps.specs.declared.refusal.Refusal.{Refusal}
 use Rattle.iso_cli.specs.Answers.{Answers, Says, SaysRefusal, SaysUsage, memory_line}
-use Rattle.iso_cli.specs.Built.{built_job_of, if_built, if_reading, reading_job_of, taken_by}
+use Rattle.iso_cli.specs.Built.{built_job_of, if_built, taken_by}
 use Rattle.iso_cli.specs.JobOf.{job_of}
 use Rattle.iso_cli.specs.Options.{Text}
 use Rattle.iso_cli.specs.declared.status.Status.{Status}
@@ -30,29 +30,3 @@ pub any_memory : (named : Option Job) (left written : Option (List ℕ)) (faults
     → IfSome named (λ job. IfSome (taken_by job left) (λ bytes. Answers job bytes s (change written written faults faults) err))
 any_memory None left written faults s err e said = tt
 any_memory (Some job) left written faults s err e said = memory_answer job (taken_by job left) written faults s err e said
-
--- ---- what a job takes
-
--- nothing, where it is about a generated file
-pub taken_nothing : {A : Type 0} (o : Option A) (n : A) (left : Option (List ℕ)) → Some n ≡ o → (if is_some o then Some [] else left) ≡ Some []
-taken_nothing o n left e = ap (λ x. if is_some x then Some [] else left) (sym e)
-
--- all that is left, where it is about the file of the source
-pub taken_all : {A : Type 0} (o : Option A) (left : Option (List ℕ)) → None ≡ o → (if is_some o then Some [] else left) ≡ left
-taken_all o left e = ap (λ x. if is_some x then Some [] else left) (sym e)
-
--- where nothing is read, the job that is built is about a generated file
-pub unread_generated : (words : List Text) (job : Job) → built_job_of words ≡ Some job → IsNone (reading_job_of words) → IsSome (generated job)
-unread_generated words job is none = by (generated job) (subst (λ (o : Option Job). IsNone (option_and_then if_reading o)) is none)
-  where
-    by : (o : Option ℕ) → IsNone (if is_some o then None else Some job) → IsSome o
-    by None h = absurd h
-    by (Some n) h = tt
-
--- what holds of a job about the file of the source
-pub of_reading : (P : Type 0) (words : List Text) (job : Job) → built_job_of words ≡ Some job → IfNone (generated job) P → IfSome (reading_job_of words) (λ _. P)
-of_reading P words job is h = subst (λ (o : Option Job). IfSome (option_and_then if_reading o) (λ _. P)) (sym is) (by (generated job) h)
-  where
-    by : (o : Option ℕ) → IfNone o P → IfSome (if is_some o then None else Some job) (λ _. P)
-    by None h = h
-    by (Some n) h = tt

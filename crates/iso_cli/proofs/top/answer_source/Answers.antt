@@ -1,6 +1,10 @@
 use Rattle.std.proofs.Common.{Err, ap}
-use Rattle.iso_cli.proofs.Lines.{says_same, fault_answer, memory_answer, long_answer}
+use Rattle.iso_cli.proofs.Lines.{says_same, fault_answer, memory_answer, long_answer, whole_answer}
 use Rattle.iso_cli.proofs.top.answer_source.Goals as goal
+
+pub returns-in-Ok-clause-answers : goal.returns-in-Ok-clause-answers
+returns-in-Ok-clause-answers g c =
+    whole_answer c.args.job (g.S.Source.left c.args.source.now) c.deref.result.now c.in-Ok.bytes.items c.answer.result _ _ c.in-Ok.ensures.all c.deref.ensures.value c.answer.ensures.answers
 
 pub returns-in-Err-ReadFault-clause-answers : goal.returns-in-Err-ReadFault-clause-answers
 returns-in-Err-ReadFault-clause-answers g c =
