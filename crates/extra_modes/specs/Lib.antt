@@ -1,0 +1,10 @@
+-- The modules, each behind those that it stands on.
+
+-- lines that name atoms of a supercell, and the amounts of the atoms
+pub mod Amounts
+-- what the parts of the code that gathers amounts give
+pub mod GatherParts
+-- no two atoms with one label are in one place
+pub mod NamedAtomLaws
+-- the amounts that lines give are one, or there is one line that is refused
+pub mod AmountLaws
