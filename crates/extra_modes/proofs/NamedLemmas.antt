@@ -9,8 +9,8 @@ use Rattle.wyckoff.specs.Orbit.{OrbitView}
 use Rattle.wyckoff.specs.Places.{place_at}
 use Rattle.extra_modes.specs.declared.amount_lines.AmountLine.{AmountLine}
 use Rattle.extra_modes.specs.declared.named_atoms.AtomNumber.{AtomNumber}
-use Rattle.extra_modes.specs.Amounts.{LabelledPlaces, labelled, Naming, IsInPlace, HasAtom, Names, IsTaken, IsAccepted, AreAccepted, IsUnmatched, IsAmbiguous}
-use Rattle.extra_modes.specs.GatherParts.{IsPlaceFound, IsAtomFoundIn, IsAtomFound, AreApart, AreNamed}
+use Rattle.extra_modes.specs.Amounts.{LabelledPlaces, labelled, Naming, IsInPlace, HasAtom, Names, IsAccepted, IsUnmatched, IsAmbiguous}
+use Rattle.extra_modes.specs.GatherParts.{IsPlaceFound, IsAtomFoundIn, AreApart, AreNamed}
 
 -- below n + 1: below n, or n
 pub below_or : (i n : ℕ) → i < n + 1 → (i < n) ⊎ (i ≡ n)

@@ -3,14 +3,14 @@
 -- amounts-unique: lines give one list of amounts
 -- gather_cause-unique: one line is refused, for one cause
 -- gathered-apart: no line is refused where there are amounts
-use Rattle.std.proofs.Common.{◌≡◌, refl, sym, ap, ◌∙◌, subst, ℕ, zero, suc, ◌<◌, ◌⊎◌, inl, inr, ℤ, List, [], ◌∷◌, length, get_or, Some, slice_get, arith}
+use Rattle.std.proofs.Common.{◌≡◌, refl, sym, ap, ◌∙◌, subst, ℕ, ◌<◌, inl, inr, ℤ, List, [], length, get_or, Some, slice_get, arith}
 use Rattle.std.proofs.lemmas.Bool.{cases_order}
 use Rattle.std.proofs.lemmas.List.{ext_get_or}
 use Rattle.std.proofs.lemmas.Option.{slice_get_cases, slice_get_within, same_Some}
 use Rattle.extra_modes.specs.declared.amount_lines.AmountLine.{AmountLine}
 use Rattle.extra_modes.specs.declared.errors.ExtraError.{ExtraError}
 use Rattle.extra_modes.specs.declared.errors.ExtraError.TheVariants.{Wide, Unmatched, Ambiguous, NoMemory}
-use Rattle.extra_modes.specs.Amounts.{LabelledPlaces, Naming, Names, IsTaken, AreAccepted, AmountsView, IsAmountOf, AreAmounts, IsUnmatched, IsAmbiguous, IsGatherCause}
+use Rattle.extra_modes.specs.Amounts.{Naming, Names, AreAccepted, AmountsView, IsAmountOf, AreAmounts, IsUnmatched, IsAmbiguous, IsGatherCause}
 
 module _ (g : Naming) where
   line_of : (n : ℕ) (a b : AmountLine) → slice_get g.lines n ≡ Some a → slice_get g.lines n ≡ Some b → a ≡ b

@@ -14,7 +14,6 @@ use Rattle.std.specs.Prelude.{◌≡◌, ◌⊎◌, ℕ, ◌<◌, ◌≤◌, ℤ
 use Rattle.space_ops.specs.Matrix.{Vector}
 use Rattle.wyckoff.specs.Orbit.{OrbitView}
 use Rattle.wyckoff.specs.Places.{place_at}
-use Rattle.extra_modes.specs.declared.amount_lines.AmountLine.{AmountLine}
 use Rattle.extra_modes.specs.declared.amounts.Amounts.TheInside.{Inside}
 use Rattle.extra_modes.specs.declared.named_atoms.AtomNumber.{AtomNumber}
 use Rattle.extra_modes.specs.Amounts.{LabelledPlaces, Naming, IsInPlace, HasAtom, Names, AreAccepted, AmountsView, nothing}

@@ -5,7 +5,7 @@
 -- orbits-meet: atoms whose orbits have a place in common are on one orbit
 -- map-behind: what stands behind an element of a list of images
 -- atoms-apart: a label and a place have one atom of accepted lines at most
-use Rattle.std.proofs.Common.{◌≡◌, refl, sym, ap, ◌∙◌, subst, ℕ, zero, suc, ◌<◌, ◌⊎◌, inl, inr, ℤ, ◌+ℤ◌, neg_ℤ, List, [], ◌∷◌, length, map, Option, Some, None, slice_get, arith}
+use Rattle.std.proofs.Common.{◌≡◌, refl, sym, ap, ◌∙◌, subst, ℕ, zero, suc, ◌<◌, inl, inr, ℤ, List, [], ◌∷◌, length, map, Some, slice_get, arith}
 use Rattle.std.proofs.lemmas.Bool.{cases_order}
 use Rattle.std.proofs.lemmas.Int.{ints}
 use Rattle.std.proofs.lemmas.Option.{slice_get_cases, slice_get_within, none-some, same_Some}

@@ -1,7 +1,6 @@
-use Rattle.std.proofs.Common.{◌≡◌, refl, sym, ap, ◌∙◌, subst, ℤ, ℕ, List, length, map}
-use Rattle.extra_modes.specs.declared.named_atoms.AtomNumber.{AtomNumber}
-use Rattle.extra_modes.specs.Amounts.{labelled, Naming, naming_of, AreAmounts}
-use Rattle.extra_modes.specs.GatherParts.{AreApart, AreNamed, AreGiven, no_numbers}
+use Rattle.std.proofs.Common.{sym, subst, ℕ, List, length, map}
+use Rattle.extra_modes.specs.Amounts.{labelled, Naming}
+use Rattle.extra_modes.specs.GatherParts.{AreApart, AreNamed, AreGiven}
 use Rattle.extra_modes.specs.NamedAtomLaws.{atoms-apart}
 use Rattle.extra_modes.proofs.GivenLemmas.{none_given, all_given}
 use Rattle.extra_modes.proofs.gathering.gather.Goals as goal

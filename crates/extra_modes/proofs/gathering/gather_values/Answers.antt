@@ -1,7 +1,6 @@
-use Rattle.std.proofs.Common.{sym, ◌∙◌, subst, List, map}
+use Rattle.std.proofs.Common.{sym, ◌∙◌, subst, List}
 use Rattle.std.proofs.lemmas.List.Elements.{All-map}
 use Rattle.std.specs.List.{All}
-use Rattle.iso_text.specs.declared.sections.ValueText.{ValueText}
 use Rattle.space_ops.specs.Op.{IsShiftWithin}
 use Rattle.extra_modes.specs.declared.amount_lines.AmountLine.{AmountLine}
 use Rattle.extra_modes.specs.Amounts.{value_line}

@@ -1,8 +1,8 @@
-use Rattle.std.proofs.Common.{◌≡◌, refl, sym, ap, ◌∙◌, subst, ℕ, ◌<◌, ◌+◌, List, ℤ, length, map, Some, get_or, slice_get, arith}
-use Rattle.std.proofs.lemmas.Option.{slice_get_read, slice_get-get_or}
+use Rattle.std.proofs.Common.{refl, sym, ap, ◌∙◌, subst, ◌+◌, map, get_or}
+use Rattle.std.proofs.lemmas.Option.{slice_get_read}
 use Rattle.extra_modes.specs.declared.amount_lines.AmountLine.{AmountLine}
 use Rattle.extra_modes.specs.declared.named_atoms.AtomNumber.{AtomNumber}
-use Rattle.extra_modes.specs.Amounts.{labelled, Naming, Names}
+use Rattle.extra_modes.specs.Amounts.{labelled, Naming}
 use Rattle.extra_modes.specs.GatherParts.{set_numbers, AreGiven}
 use Rattle.extra_modes.proofs.GivenLemmas.{orbit_inside, atom_inside, line_given, all_names}
 use Rattle.extra_modes.proofs.gathering.give_all.Goals as goal

@@ -1,4 +1,4 @@
-use Rattle.std.proofs.Common.{◌≡◌, refl, sym, ap, ◌∙◌, subst, ℕ, ◌+◌, List, map, false, true, Some, slice_get}
+use Rattle.std.proofs.Common.{◌≡◌, refl, sym, ap, ◌∙◌, subst, ◌+◌, List, map, false, true, slice_get}
 use Rattle.std.proofs.lemmas.Option.{slice_get_read}
 use Rattle.extra_modes.specs.declared.named_atoms.AtomNumber.{AtomNumber}
 use Rattle.extra_modes.specs.Amounts.{labelled, Naming}

@@ -1,8 +1,7 @@
-use Rattle.std.proofs.Common.{◌≡◌, subst, ℕ, ◌<◌, inl, inr, map, length, arith}
+use Rattle.std.proofs.Common.{◌≡◌, subst, ◌<◌, inl, inr, map, length, arith}
 use Rattle.std.proofs.lemmas.List.{length-map}
 use Rattle.std.proofs.lemmas.Option.{slice_get_within}
 use Rattle.space_ops.specs.Op.{vector_of}
-use Rattle.wyckoff.specs.Orbit.{OrbitView}
 use Rattle.extra_modes.specs.Amounts.{labelled, HasAtom}
 use Rattle.extra_modes.proofs.NamedLemmas.{below_or}
 use Rattle.extra_modes.proofs.named_atoms.atom_at.Goals as goal
