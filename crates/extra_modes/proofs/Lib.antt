@@ -1,0 +1,5 @@
+pub mod ListLemmas
+pub mod PlaceLemmas
+pub mod NamedLemmas
+pub mod GivenLemmas
+pub mod FamilyLemmas
