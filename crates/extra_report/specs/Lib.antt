@@ -1,0 +1,8 @@
+-- The modules, each behind those that it stands on.
+
+-- the reports of occupations and axial vectors
+pub mod ExtraReport
+-- what `occ` and `axial` find in a file
+pub mod ExtraFound
+-- what is found for them, by the program's answer
+pub mod FoundExtra
