@@ -1,19 +1,18 @@
-use Rattle.std.proofs.Common.{◌≡◌, ℕ, suc, zero, ◌+◌, ◌<◌, ◌≤◌, ◌||◌, Bool, true, false, inl, inr, refl, sym, ◌∙◌, ap, subst, arith, nat_eq, if◌then◌else◌, List, [], ◌∷◌, length}
+use Rattle.std.proofs.Common.{◌≡◌, ℕ, suc, zero, ◌<◌, ◌≤◌, ◌||◌, true, false, inl, inr, refl, sym, ◌∙◌, ap, subst, arith, nat_eq, if◌then◌else◌, List, [], ◌∷◌, length}
 use Rattle.std.proofs.lemmas.Bool.Decides.{eqb_tells}
 use Rattle.std.specs.List.{slice_index}
 use Rattle.cyclo24.specs.FieldOn.{FieldOn}
-use Rattle.cyclo24.specs.FieldLaws.{nought-times, times-nought, less-at-nought, less-nought, less-self, plus-times, times-neg}
-use Rattle.cyclo24.specs.Sums.{total}
+use Rattle.cyclo24.specs.FieldLaws.{times-nought, less-nought, less-self, plus-times, times-neg}
 use Rattle.cyclo24.specs.TotalLaws.{total-same, total-nought, total-plus, total-times}
-use Rattle.lin_alg.specs.EquationLaws.{dec, eq-self, dot-unit, vanish-subspace, free-vanishes}
+use Rattle.lin_alg.specs.EquationLaws.{dec, dot-unit, vanish-subspace}
 use Rattle.lin_alg.specs.Equations.{dot, unit_vector, free_vector, Vanishes}
-use Rattle.lin_alg.specs.FreeLaws.{column-held, free_columns-at}
-use Rattle.lin_alg.specs.InsertLaws.{span-least, span-subspace}
-use Rattle.lin_alg.specs.Reduced.{IsReduced, IsForm, IsWithin, ArePast, EndsAt, is_pivot, free_columns}
+use Rattle.lin_alg.specs.FreeLaws.{column-held}
+use Rattle.lin_alg.specs.InsertLaws.{span-least}
+use Rattle.lin_alg.specs.Reduced.{IsReduced, IsWithin, ArePast, is_pivot, free_columns}
 use Rattle.lin_alg.specs.Solving.{combination, plain_rows}
 use Rattle.lin_alg.specs.SpanLaws.{funext}
-use Rattle.lin_alg.specs.Spans.{row_vectors, less, IsInSpan, IsSubspace, HasRows}
-use Rattle.mode_project.specs.ListLaws.{plain-each, plain-member}
+use Rattle.lin_alg.specs.Spans.{row_vectors, IsInSpan, IsSubspace}
+use Rattle.mode_project.specs.ListLaws.{plain-each}
 
 module _ {K : Type 0} (f : FieldOn K) where
   flip : (n : ℕ) (x v : ℕ → K) → dot f n x v ≡ dot f n v x

@@ -1,10 +1,9 @@
-use Rattle.std.proofs.Common.{◌≡◌, ℕ, ◌+◌, ◌-◌, ◌*◌, ◌<◌, ◌≤◌, ◌^◌, inl, inr, sym, ◌∙◌, ap, subst, arith, List, length}
+use Rattle.std.proofs.Common.{◌≡◌, ℕ, ◌*◌, ◌<◌, ◌≤◌, ◌^◌, inl, inr, sym, ◌∙◌, ap, subst, arith, List, length}
 use Rattle.std.proofs.lemmas.Nat.{mul-le}
 use Rattle.std.specs.List.{slice_index}
 use Rattle.cyclo24.specs.ExactField.{ExactField, Value}
 use Rattle.lin_alg.specs.Echelon.{EchelonView}
 use Rattle.lin_alg.specs.Equations.{dot, free_vector}
-use Rattle.lin_alg.specs.FormLaws.{form-length}
 use Rattle.lin_alg.specs.Insertion.{IsWideInsert}
 use Rattle.lin_alg.specs.Matrix.{MatrixView, entry, IsWideDot}
 use Rattle.lin_alg.specs.Reduced.{IsForm, free_columns}

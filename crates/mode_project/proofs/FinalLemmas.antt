@@ -1,6 +1,7 @@
-use Rattle.std.proofs.Common.{◌≡◌, ℕ, suc, zero, ◌+◌, ◌<◌, refl, sym, ◌∙◌, ap, subst, arith, if◌then◌else◌, List, [], ◌∷◌, ◌++◌, length, Vec, get_or}
+use Rattle.std.proofs.Common.{◌≡◌, ℕ, suc, zero, ◌+◌, ◌<◌, refl, sym, ◌∙◌, ap, subst, if◌then◌else◌, List, [], ◌∷◌, ◌++◌, length, Vec, get_or}
 use Rattle.std.specs.List.{slice_index, All}
 use Rattle.std.specs.Prelude.{slice_index_or, Err, Result}
+use Rattle.lin_alg.specs.declared.errors.LinError.TheVariants as lin_error
 use Rattle.mode_project.specs.declared.errors.ModeError.TheVariants as mode_error
 use Rattle.cyclo24.specs.declared.k24.K24.{K24}
 use Rattle.super_group.specs.Quotient.{SupercellGroup, quotient_group}
@@ -73,6 +74,13 @@ pub weight-at : {Z : Type 0} (g : SupercellGroup) (vs : List (Vec K24 Z)) (lists
 weight-at {Z} g vs lists e h j l =
     let l' : j < length (rows_in vs) = subst (λ (n : ℕ). j < n) (sym (rows-length vs)) l in
     subst (All (IsClassList g)) (sym e) h j [] l'
+
+-- an error is told by the result
+pub same-error : {T : Type 0} (e f : lin_error.the_data) → ◌≡◌ {A = Result T lin_error.the_data} (Err e) (Err f) → e ≡ f
+same-error {T} e f h = cc
+
+pub same-cause : {T : Type 0} (e f : mode_error.the_data) → ◌≡◌ {A = Result T mode_error.the_data} (Err e) (Err f) → e ≡ f
+same-cause {T} e f h = cc
 
 -- a family is told by its error
 pub same-family : {T : Type 0} (n f : ℕ) → ◌≡◌ {A = Result T mode_error.the_data} (Err (mode_error.Wide n)) (Err (mode_error.Wide f)) → f ≡ n

@@ -1,5 +1,5 @@
-use Rattle.std.proofs.Common.{◌≡◌, ℕ, suc, zero, ◌+◌, ◌<◌, refl, sym, ◌∙◌, ap, subst, arith, nat_eq, if◌then◌else◌, List, [], ◌∷◌, ◌++◌, length, map, get_or, Vec}
-use Rattle.std.specs.Prelude.{slice_index, slice_index_or, slice_get, Option, Some, None}
+use Rattle.std.proofs.Common.{◌≡◌, ℕ, suc, zero, ◌+◌, ◌<◌, refl, sym, ◌∙◌, ap, subst, arith, nat_eq, if◌then◌else◌, List, [], ◌∷◌, length, map, get_or, Vec}
+use Rattle.std.specs.Prelude.{slice_index, slice_index_or, slice_get, Some, None}
 use Rattle.std.proofs.lemmas.List.{get_or-map}
 use Rattle.cyclo24.specs.ExactField.{ExactField, Value}
 use Rattle.cyclo24.specs.FieldOn.{FieldOn}

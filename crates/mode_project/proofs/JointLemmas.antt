@@ -1,4 +1,4 @@
-use Rattle.std.proofs.Common.{◌≡◌, ◌↔◌, ℕ, suc, zero, ◌+◌, ◌<◌, ◌≤◌, inl, inr, true, refl, sym, ◌∙◌, ap, subst, arith, List, [], ◌∷◌, ◌++◌, length, map, take, get_or, Vec, length-take, length-append}
+use Rattle.std.proofs.Common.{◌≡◌, ℕ, suc, zero, ◌+◌, ◌<◌, ◌≤◌, inl, inr, true, refl, sym, ◌∙◌, ap, subst, arith, List, [], ◌∷◌, ◌++◌, length, map, take, get_or, Vec, length-append}
 use Rattle.std.specs.Prelude.{slice_index_or}
 use Rattle.std.proofs.lemmas.List.{take_more, map-append}
 use Rattle.cyclo24.specs.ExactField.{ExactField, Value}
@@ -6,18 +6,17 @@ use Rattle.cyclo24.specs.FieldOn.{FieldOn}
 use Rattle.lin_alg.specs.Echelon.{EchelonView, IsEchelon, IsSpanned}
 use Rattle.lin_alg.specs.Insertion.{IsWideInsert}
 use Rattle.lin_alg.specs.InsertLaws.{span-rows}
-use Rattle.lin_alg.specs.Reduced.{IsReduced}
 use Rattle.lin_alg.specs.Rows.{vector, exact_rows, HaveWidth}
-use Rattle.lin_alg.specs.Solving.{plain_rows, IsWideIndependent}
+use Rattle.lin_alg.specs.Solving.{plain_rows}
 use Rattle.lin_alg.specs.SpanLaws.{in_span-head}
 use Rattle.lin_alg.specs.Spans.{row_vectors, IsInSpan, HasRows, AreSame}
 use Rattle.mode_project.specs.AtomSpace.{AtomSpace, size_of}
 use Rattle.mode_project.specs.Joined.{lines_in, joined_rows_in, AreLong, IsJoined}
 use Rattle.mode_project.specs.KeptLaws.{kept-append, kept-over, kept-under, range-more}
-use Rattle.mode_project.specs.ListLaws.{rows-append, rows-front, rows-back, vectors-append, vectors-length, span-within, front-rows, back-rows, last-same, same-more, at-front, plain-same}
+use Rattle.mode_project.specs.ListLaws.{rows-append, vectors-append, vectors-length, span-within, front-rows, back-rows, last-same, same-more, plain-same}
 use Rattle.mode_project.specs.Modes.{marked, AreRangeRows, IsKept, AreKept, AreIrrepModes, vector_at}
 use Rattle.mode_project.specs.Projection.{projection, IsInRange, IsReducedFormOf}
-use Rattle.mode_project.specs.Wide.{IsWideRange, IsWideModes}
+use Rattle.mode_project.specs.Wide.{IsWideModes}
 use Rattle.mode_project.specs.WideParts.{IsWideRows}
 use Rattle.mode_project.proofs.RangeLemmas.{plain-equal}
 

@@ -1,4 +1,4 @@
-use Rattle.std.proofs.Common.{◌≡◌, ◌↔◌, ℕ, suc, zero, ◌+◌, ◌*◌, ◌/◌, ◌%◌, ◌<◌, ◌≤◌, inl, inr, refl, sym, ◌∙◌, ap, subst, arith, List, [], ◌∷◌, length}
+use Rattle.std.proofs.Common.{◌≡◌, ◌↔◌, ℕ, suc, zero, ◌+◌, ◌*◌, ◌/◌, ◌%◌, ◌<◌, inl, inr, sym, ◌∙◌, ap, subst, arith, List, [], ◌∷◌, length}
 use Rattle.std.specs.List.{slice_index}
 use Rattle.cyclo24.specs.FieldOn.{FieldOn}
 use Rattle.cyclo24.specs.FieldLaws.{times-nought, times-neg, neg-nought, neg-neg, neg-unique, neg-plus-neg, plus-swap}
@@ -11,14 +11,14 @@ use Rattle.lin_alg.specs.FormLaws.{vanishes-mono}
 use Rattle.lin_alg.specs.FreeLaws.{free_columns-at}
 use Rattle.lin_alg.specs.InsertLaws.{span-least, span-subspace}
 use Rattle.lin_alg.specs.Matrices.{apply}
-use Rattle.lin_alg.specs.Reduced.{IsForm, IsWithin, free_columns}
+use Rattle.lin_alg.specs.Reduced.{IsForm, free_columns}
 use Rattle.lin_alg.specs.Solving.{combination, plain_rows}
 use Rattle.lin_alg.specs.UnionLaws.{lower}
 use Rattle.lin_alg.specs.Spans.{row_vectors, IsInSpan, IsSubspace, HasRows, AreSame}
 use Rattle.mode_project.specs.AtomSpace.{AtomSpace, size_of, matrix_of}
 use Rattle.mode_project.specs.AtomSpaceLaws.{row-at, number-at, atom-below, number-below, column-below}
 use Rattle.mode_project.specs.DirectionModes.{IsLeftBy, IsLeftInRange, AreModesOf}
-use Rattle.mode_project.specs.ListLaws.{plain-each, plain-member, plain-same, vectors-length, each-row}
+use Rattle.mode_project.specs.ListLaws.{plain-each, plain-member, plain-same, vectors-length}
 use Rattle.mode_project.specs.Modes.{vector_at}
 use Rattle.mode_project.specs.Projection.{projection, IsInRange, IsReducedFormOf}
 use Rattle.mode_project.specs.ProjectionLaws.{range-subspace}

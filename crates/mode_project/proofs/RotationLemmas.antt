@@ -1,4 +1,4 @@
-use Rattle.std.proofs.Common.{◌≡◌, ℕ, suc, zero, ◌+◌, ◌*◌, ◌/◌, ◌<◌, inl, inr, refl, sym, ◌∙◌, ap, subst, arith, below_more, ℤ, List, [], ◌∷◌, ◌++◌, length, set}
+use Rattle.std.proofs.Common.{◌≡◌, ℕ, suc, zero, ◌+◌, ◌*◌, ◌/◌, ◌<◌, ◌≤◌, inl, inr, refl, sym, ◌∙◌, ap, subst, arith, below_more, ℤ, List, [], ◌∷◌, ◌++◌, length, set}
 use Rattle.std.proofs.lemmas.List.{length_push, get_or-set_same, get_or-set_other}
 use Rattle.algebra.specs.SumLaws.{decide}
 use Rattle.std.specs.Prelude.{slice_index_or}
@@ -6,9 +6,9 @@ use Rattle.space_ops.specs.declared.op.Op.{Op}
 use Rattle.space_ops.specs.Op.{number_at, row_at, matrix_of, identity_op}
 use Rattle.super_group.specs.Quotient.{SupercellGroup, IsQuotient, order_of, quotient_group}
 use Rattle.wyckoff.specs.Orbit.{OrbitView, image_of}
-use Rattle.mode_project.specs.AtomSpace.{matrix_entry, displacements}
+use Rattle.mode_project.specs.AtomSpace.{matrix_entry, Quantity, IsQuantity, space_of}
 use Rattle.mode_project.specs.AtomSpaceLaws.{atom-below}
-use Rattle.mode_project.specs.DisplacementLaws.{turn-listed}
+use Rattle.mode_project.specs.QuantityLaws.{turn-listed}
 use Rattle.mode_project.specs.declared.turns.Turns.{Turns}
 use Rattle.mode_project.specs.Turns.{IsTurnTable, IsReached, IsWay, AreWays}
 use Rattle.mode_project.specs.AtomSpace.{AtomSpace}
@@ -29,10 +29,10 @@ entry-of rot (suc (suc zero)) (suc (suc zero)) la lb = refl
 entry-of rot (suc (suc zero)) (suc (suc (suc b))) la lb = absurd (omega (arith, lb))
 entry-of rot (suc (suc (suc a))) b la lb = absurd (omega (arith, la))
 
--- the rotations of the first k operations
-pub record AreRotations (ops : List Op) (rots : List (List (List ℤ))) (k : ℕ) : Type 0 where
-  pub count : length rots ≡ k
-  pub each : (r : ℕ) → r < k → slice_index_or rots r [] ≡ (slice_index_or ops r identity_op).rot
+-- the matrices of the first k operations
+pub record AreTurned (k : Quantity) (ops : List Op) (rots : List (List (List ℤ))) (n : ℕ) : Type 0 where
+  pub count : length rots ≡ n
+  pub each : (r : ℕ) → r < n → matrix_of (slice_index_or rots r []) ≡ k.matrix (matrix_of (slice_index_or ops r identity_op).rot)
 
 module _ {X : Type 0} where
   item-before : (xs : List X) (y d : X) (b : ℕ) → b < length xs → slice_index_or (xs ++ y ∷ []) b d ≡ slice_index_or xs b d
@@ -46,34 +46,36 @@ module _ {X : Type 0} where
   item-last (x ∷ xs) y d zero e = absurd (omega (arith, e))
   item-last (x ∷ xs) y d (suc b) e = item-last xs y d b (omega (arith, e))
 
-pub rotations-start : (ops : List Op) (rots : List (List (List ℤ))) → rots ≡ [] → AreRotations ops rots 0
-rotations-start ops rots e = subst (λ xs. AreRotations ops xs 0) (sym e) (record { count = refl; each = λ r l. absurd (omega (arith, l)) })
+pub turned-start : (k : Quantity) (ops : List Op) (rots : List (List (List ℤ))) → rots ≡ [] → AreTurned k ops rots 0
+turned-start k ops rots e = subst (λ xs. AreTurned k ops xs 0) (sym e) (record { count = refl; each = λ r l. absurd (omega (arith, l)) })
 
-pub rotations-next : (ops : List Op) (rots new : List (List (List ℤ))) (k : ℕ) (rot : List (List ℤ)) → new ≡ rots ++ rot ∷ [] → rot ≡ (slice_index_or ops k identity_op).rot → AreRotations ops rots k → AreRotations ops new (k + 1)
-rotations-next ops rots new k rot e own h =
-    subst (λ xs. AreRotations ops xs (k + 1)) (sym e) (record {
-      count = length_push rots rot ∙ ap (λ n. n + 1) h.count;
-      each = below_more (λ r. slice_index_or (rots ++ rot ∷ []) r [] ≡ (slice_index_or ops r identity_op).rot) k
-          (λ r l. item-before rots rot [] r (omega (arith, l, h.count)) ∙ h.each r l) (item-last rots rot [] k h.count ∙ own);
+pub turned-next : (k : Quantity) (ops : List Op) (rots new : List (List (List ℤ))) (n : ℕ) (rot : List (List ℤ)) → new ≡ rots ++ rot ∷ []
+    → matrix_of rot ≡ k.matrix (matrix_of (slice_index_or ops n identity_op).rot) → AreTurned k ops rots n → AreTurned k ops new (n + 1)
+turned-next k ops rots new n rot e own h =
+    subst (λ xs. AreTurned k ops xs (n + 1)) (sym e) (record {
+      count = length_push rots rot ∙ ap (λ m. m + 1) h.count;
+      each = below_more (λ r. matrix_of (slice_index_or (rots ++ rot ∷ []) r []) ≡ k.matrix (matrix_of (slice_index_or ops r identity_op).rot)) n
+          (λ r l. ap matrix_of (item-before rots rot [] r (omega (arith, l, h.count))) ∙ h.each r l) (ap matrix_of (item-last rots rot [] n h.count) ∙ own);
     })
 
 some-translations : (R T : ℕ) → 0 < R * T → 0 < T
 some-translations R zero l = let e : R * 0 ≡ 0 = omega arith in absurd (omega (arith, l, e))
 some-translations R (suc T) l = omega arith
 
-pub rotations-table : (g : SupercellGroup) → IsQuotient g → 0 < order_of g → (o : OrbitView) (t : Turns) → t.each ≡ 3 → t.translations ≡ length g.translations
-    → AreRotations g.parent.ops t.matrices.items (length g.parent.ops) → IsTurnTable (displacements g o) t
-rotations-table g h pos o t e3 et r = record {
-  each = e3;
-  few = omega arith;
+pub turned-table : (g : SupercellGroup) → IsQuotient g → 0 < order_of g → (o : OrbitView) (k : Quantity) → IsQuantity k → (t : Turns) → t.each ≡ k.each → t.translations ≡ length g.translations
+    → AreTurned k g.parent.ops t.matrices.items (length g.parent.ops) → IsTurnTable (space_of g o k) t
+turned-table g h pos o k law t ek et r = record {
+  each = ek;
+  few = law.few;
   some = subst (λ (n : ℕ). 0 < n) (sym et) (some-translations (length g.parent.ops) (length g.translations) pos);
   inside = λ q l. subst (λ (n : ℕ). q / n < length t.matrices.items) (sym et) (subst (λ (n : ℕ). q / length g.translations < n) (sym r.count) (atom-below (length g.parent.ops) (length g.translations) q l));
   entries = λ q a b l la lb.
-      let k : q / length g.translations < length g.parent.ops = atom-below (length g.parent.ops) (length g.translations) q l in
+      let few : k.each ≤ 3 = law.few in
+      let below : q / length g.translations < length g.parent.ops = atom-below (length g.parent.ops) (length g.translations) q l in
       ap (λ n. number_at (row_at (slice_index_or t.matrices.items (q / n) []) a) b) et
-      ∙ ap (λ rot. number_at (row_at rot a) b) (r.each (q / length g.translations) k)
-      ∙ entry-of (slice_index_or g.parent.ops (q / length g.translations) identity_op).rot a b la lb
-      ∙ ap (λ m. matrix_entry m a b) (turn-listed g h q);
+      ∙ entry-of (slice_index_or t.matrices.items (q / length g.translations) []) a b (omega (arith, la, few)) (omega (arith, lb, few))
+      ∙ ap (λ m. matrix_entry m a b) (r.each (q / length g.translations) below)
+      ∙ ap (λ m. matrix_entry (k.matrix m) a b) (turn-listed g h q);
 }
 
 -- the atoms to which the first k elements take the first atom are reached
@@ -108,7 +110,7 @@ ways-next s ways new k way e own h =
           (subst (λ (w : ℕ × ℕ). IsWay s k w) (sym (item-last ways way (0, 0) k h.count)) own);
     })
 
-pub reached-way : (g : SupercellGroup) (o : OrbitView) (elements : List ℕ) (i q p : ℕ) → q ≡ slice_index_or elements i 0 → p ≡ (quotient_group g).inverse q → IsReached (order_of g) o elements i → IsWay (displacements g o) i (q, p)
-reached-way g o elements i q p e k h =
+pub reached-way : (g : SupercellGroup) (o : OrbitView) (k : Quantity) (elements : List ℕ) (i q p : ℕ) → q ≡ slice_index_or elements i 0 → p ≡ (quotient_group g).inverse q → IsReached (order_of g) o elements i → IsWay (space_of g o k) i (q, p)
+reached-way g o k elements i q p e v h =
     let own : (q < order_of g) × (image_of o q 0 ≡ i) = subst (λ (x : ℕ). (x < order_of g) × (image_of o x 0 ≡ i)) (sym e) h in
-    record { below = own.0; reaches = own.1; inverse = k }
+    record { below = own.0; reaches = own.1; inverse = v }

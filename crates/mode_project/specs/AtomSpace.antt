@@ -4,15 +4,20 @@
 -- size_of s: how many numbers there are in all; number a of atom i stands in column i c + a, for c numbers an atom
 -- matrix_of f s q: M(q), which takes the numbers of an atom, turned by the matrix of q, to the image of the atom
 -- IsAtomSpace s: the group permutes the atoms, takes the first to each, and the matrices multiply as it does
--- displacements g o: the displacements of the atoms of an orbit along the cell edges; an element turns them by its rotation
+-- matrix_entry m a b: entry (a, b) of a 3 by 3 matrix
+-- Quantity: what each atom has, some numbers, which a rotation turns by a matrix
+-- IsQuantity k: the matrices multiply as the rotations do
+-- space_of g o k: the numbers at the atoms of an orbit
+-- polar_vector, displacements g o: along the cell edges; a rotation turns a displacement by itself
 -- IsOrbit g o: the orbit of some atom
-use Rattle.std.specs.Prelude.{◌≡◌, ℕ, suc, zero, ◌<◌, ◌*◌, ◌+ℤ◌, ◌*ℤ◌, ℤ, pos, length, nat_eq, if◌then◌else◌}
+use Rattle.std.specs.Prelude.{◌≡◌, ℕ, suc, zero, ◌<◌, ◌≤◌, ◌*◌, ◌+ℤ◌, ◌*ℤ◌, ℤ, pos, length, nat_eq, if◌then◌else◌}
 use Rattle.algebra.specs.NumberedGroup.{Group, IsGroup}
 use Rattle.algebra.specs.Sums as sums
+use Rattle.algebra.specs.Whole.{whole}
 use Rattle.cyclo24.specs.FieldOn.{FieldOn}
 use Rattle.cyclo24.specs.Numerals.{of_whole}
 use Rattle.lin_alg.specs.Matrices.{induced}
-use Rattle.space_ops.specs.Matrix.{Matrix}
+use Rattle.space_ops.specs.Matrix.{Matrix, matrix_times, unit_matrix}
 use Rattle.super_group.specs.Quotient.{SupercellGroup, element_of, quotient_group}
 use Rattle.iso_text.specs.declared.sections.AtomText.{AtomText}
 use Rattle.wyckoff.specs.Orbit.{OrbitView, image_of, IsOrbitOf}
@@ -55,15 +60,32 @@ matrix_entry m zero b = among_three m.r00 m.r01 m.r02 b
 matrix_entry m (suc zero) b = among_three m.r10 m.r11 m.r12 b
 matrix_entry m (suc (suc a)) b = among_three m.r20 m.r21 m.r22 b
 
--- three numbers an atom; an element turns them by its rotation
-abbrev pub displacements : SupercellGroup → OrbitView → AtomSpace
-displacements g o = record {
+-- of the matrix the first rows and columns count, as many as an atom has numbers
+pub record Quantity : Type 0 where
+  pub each : ℕ
+  pub matrix : Matrix ℤ → Matrix ℤ
+
+pub record IsQuantity (k : Quantity) : Type 0 where
+  pub few : k.each ≤ 3
+  pub unit : (a b : ℕ) → a < k.each → b < k.each → matrix_entry (k.matrix (unit_matrix whole)) a b ≡ (if nat_eq a b then pos 1 else pos 0)
+  pub product : (m n : Matrix ℤ) (a b : ℕ) → a < k.each → b < k.each
+      → matrix_entry (k.matrix (matrix_times whole m n)) a b ≡ sums.total (pos 0) ◌+ℤ◌ k.each (λ c. matrix_entry (k.matrix m) a c *ℤ matrix_entry (k.matrix n) c b)
+
+-- an element takes the numbers of an atom, turned by its rotation, to the image of the atom
+abbrev pub space_of : SupercellGroup → OrbitView → Quantity → AtomSpace
+space_of g o k = record {
   group = quotient_group g;
   atoms = length o.places;
   image = image_of o;
-  each = 3;
-  turn = λ q a b. matrix_entry (element_of g q).rot a b;
+  each = k.each;
+  turn = λ q a b. matrix_entry (k.matrix (element_of g q).rot) a b;
 }
+
+abbrev pub polar_vector : Quantity
+polar_vector = record { each = 3; matrix = λ m. m }
+
+abbrev pub displacements : SupercellGroup → OrbitView → AtomSpace
+displacements g o = space_of g o polar_vector
 
 pub record IsOrbit (g : SupercellGroup) (o : OrbitView) : Type 0 where
   pub atom : AtomText

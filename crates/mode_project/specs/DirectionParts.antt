@@ -2,7 +2,7 @@
 --
 -- IsWideLeft f s h m b: forming or inserting the differences M(h) b - b of m vectors, entry by entry, for each of the elements h
 -- combined f m x b: the combinations of m vectors with the rows of x as factors; IsWideCombined: forming or inserting the first n of them
-use Rattle.std.specs.Prelude.{◌≡◌, ℕ, ◌<◌, ◌*◌, ◌⊎◌, IsTrue, List, length, slice_index}
+use Rattle.std.specs.Prelude.{ℕ, ◌<◌, ◌*◌, ◌⊎◌, IsTrue, List, length, slice_index}
 use Rattle.cyclo24.specs.FieldOn.{FieldOn}
 use Rattle.cyclo24.specs.ExactField.{ExactField, Value}
 use Rattle.lin_alg.specs.Equations.{dot}

@@ -14,8 +14,8 @@ pub mod ProjectionLaws
 pub mod ListLaws
 -- what rows that are kept where they are new obey
 pub mod KeptLaws
--- the rotations of elements multiply as the quotient does
-pub mod DisplacementLaws
+-- the matrices of elements multiply as the quotient does
+pub mod QuantityLaws
 -- the modes of an orbit are a basis
 pub mod ModeLaws
 -- the modes of an irrep for a direction

@@ -2,7 +2,7 @@
 --
 -- view_of s: the modes
 -- IsHeld s: each row has as many entries as there are columns, the columns of the others are columns, and there are few modes and columns
-use Rattle.std.specs.Prelude.{◌≡◌, ℕ, ◌+◌, ◌<◌, ◌^◌, length, slice_index}
+use Rattle.std.specs.Prelude.{ℕ, ◌+◌, ◌<◌, ◌^◌, length, slice_index}
 use Rattle.mode_project.specs.Joined.{lines_in, AreLong}
 use Rattle.mode_project.specs.ModesView.{ModesView}
 use Rattle.mode_project.specs.declared.found.Modes.TheInside.{Inside}

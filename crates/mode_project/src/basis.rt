@@ -1,13 +1,14 @@
-// The modes of an orbit, a basis of its displacements.
+// The modes of an orbit, a basis of what its atoms have.
 ghost use Rattle.std.specs.Prelude.{◌≡◌, ◌<◌, ◌≤◌, ◌*◌, ℕ, Err, IfOk, length, take};
 ghost use Rattle.cyclo24.specs.ExactK24.{Exact24, k24, k24_laws};
 ghost use Rattle.lin_alg.specs.Spans.{row_vectors, IsInSpan, AreSame};
 ghost use Rattle.lin_alg.specs.Reduced.{IsWithin};
 ghost use Rattle.lin_alg.specs.Matrices.{apply};
 ghost use Rattle.lin_alg.specs.Solving.{AreIndependent, plain_rows};
+ghost use Rattle.lin_alg.specs.declared.errors.LinError.TheVariants as lin_error;
 ghost use Rattle.super_group.specs.Quotient.{order_of, quotient_group};
 ghost use Rattle.induce.specs.Apart.{AreApart};
-ghost use Rattle.mode_project.specs.AtomSpace.{IsOrbit, matrix_of, displacements};
+ghost use Rattle.mode_project.specs.AtomSpace.{IsOrbit, size_of, matrix_of, space_of, displacements};
 ghost use Rattle.mode_project.specs.Projection.{projection, IsInRange, IsInSum};
 ghost use Rattle.mode_project.specs.Modes.{AreModes, vector_at, before_irrep};
 ghost use Rattle.mode_project.specs.Wide.{IsWideModes};
@@ -16,9 +17,10 @@ ghost use Rattle.mode_project.specs.ModesView.{irrep_modes_in, count_in, mode_in
 ghost use Rattle.mode_project.specs.ApartModes.{of_irrep, MeetInZero, AreAllApart};
 ghost use Rattle.mode_project.specs.declared.errors.ModeError.TheVariants as mode_error;
 
-use crate::displaced::displacement_modes;
 use crate::errors::FAMILY;
 use crate::laws::law_of_displacements;
+use crate::quantity::{AtomQuantity, PolarVector};
+use crate::quantity_modes::quantity_modes;
 use crate::sites::free_columns;
 use crate::{ModeError, Modes, Weights};
 use cyclo24::{K24, law_of_squares};
@@ -27,6 +29,73 @@ use std::alloc::Global;
 use std::marker::Brand;
 use super_group::Quotient;
 use wyckoff::Orbit;
+
+// The defined modes.
+fn find_modes<K: AtomQuantity>(
+    alloc: Global,
+    quotient: &Quotient,
+    orbit: &Orbit,
+    weights: &Weights,
+    kind: &K,
+) -> Result<Modes, LinError>
+    requires orbit { IsOrbit quotient.now orbit.now }
+    requires weights { AreWeights quotient.now weights.now }
+    ensures modes { IfOk result (λ m. AreModes k24_laws (space_of quotient.now orbit.now (K.quantity kind.now)) (exact_weights weights.now) (irrep_modes_in m) m.sites) }
+    ensures size { IfOk result (λ m. m.size ≡ size_of (space_of quotient.now orbit.now (K.quantity kind.now))) }
+    ensures wide { (result ≡ Err lin_error.Wide) → IsWideModes k24 (space_of quotient.now orbit.now (K.quantity kind.now)) (exact_weights weights.now) }
+{
+    let _atoms = orbit.atoms();
+    let joint = match quantity_modes::<K, Brand, K24>(
+        alloc,
+        quotient,
+        orbit,
+        kind,
+        weights.lists(),
+    ) {
+        Ok(joint) => joint,
+        Err(error) => return Err(error),
+    };
+    match free_columns(alloc, &joint.form) {
+        Ok(sites) => Ok(Modes::of_rows(joint.form.width(), joint.rows, sites)),
+        Err(_) => Err(LinError::NoMemory),
+    }
+}
+
+/// A basis of what the atoms of an orbit have: modes of the irreps in order, then unit vectors. Number a
+/// of atom i stands in column c i + a, for c numbers an atom. Condition: the orbit and the weights are of
+/// this quotient. Errors: a number that is too wide; want of memory.
+pub fn modes_in<K: AtomQuantity>(
+    alloc: Global,
+    quotient: &Quotient,
+    orbit: &Orbit,
+    weights: &Weights,
+    kind: &K,
+) -> Result<Modes, LinError>
+    requires orbit { IsOrbit quotient.now orbit.now }
+    requires weights { AreWeights quotient.now weights.now }
+    ensures modes { IfOk result (λ m. AreModes k24_laws (space_of quotient.now orbit.now (K.quantity kind.now)) (exact_weights weights.now) (irrep_modes_in m) m.sites) }
+    ensures size { IfOk result (λ m. m.size ≡ size_of (space_of quotient.now orbit.now (K.quantity kind.now))) }
+    ensures count { IfOk result (λ m. count_in m ≡ size_of (space_of quotient.now orbit.now (K.quantity kind.now))) }
+    ensures independent { IfOk result (λ m. AreIndependent k24_laws (count_in m) (mode_in m)) }
+    ensures spanning { IfOk result (λ m. AreSame (IsInSpan k24_laws (plain_rows (mode_in m) (count_in m))) (IsWithin k24_laws (size_of (space_of quotient.now orbit.now (K.quantity kind.now))))) }
+    ensures sums { IfOk result (λ m. (j : ℕ) → j ≤ length weights.now → AreSame (IsInSpan k24_laws (row_vectors (before_irrep j (irrep_modes_in m)))) (IsInSum k24_laws (space_of quotient.now orbit.now (K.quantity kind.now)) (take j (exact_weights weights.now)))) }
+    ensures wide { (result ≡ Err lin_error.Wide) → IsWideModes k24 (space_of quotient.now orbit.now (K.quantity kind.now)) (exact_weights weights.now) }
+{
+    match find_modes(alloc, quotient, orbit, weights, kind) {
+        Ok(found) => Ok(found),
+        Err(error) => Err(error),
+    }
+}
+
+// Why there are no displacement modes.
+fn cause(error: LinError) -> ModeError
+    ensures { (f : ℕ) → (result ≡ mode_error.Wide f) → (f ≡ 5) × (error ≡ lin_error.Wide) }
+{
+    match error {
+        LinError::Wide => ModeError::Wide(FAMILY),
+        LinError::NoMemory => ModeError::NoMemory,
+    }
+}
 
 /// A basis of the displacements of the atoms of an orbit: modes of the irreps in order, then unit
 /// vectors. A mode has three numbers for each atom, along the cell edges. Condition: the orbit and the
@@ -53,33 +122,8 @@ pub fn modes(
     let _order = quotient.order();
     law_of_displacements();
     law_of_squares();
-    match find_modes(alloc, quotient, orbit, weights) {
+    match modes_in(alloc, quotient, orbit, weights, &PolarVector) {
         Ok(found) => Ok(found),
-        Err(error) => Err(error),
-    }
-}
-
-// The defined modes.
-fn find_modes(
-    alloc: Global,
-    quotient: &Quotient,
-    orbit: &Orbit,
-    weights: &Weights,
-) -> Result<Modes, ModeError>
-    requires orbit { IsOrbit quotient.now orbit.now }
-    requires weights { AreWeights quotient.now weights.now }
-    ensures modes { IfOk result (λ m. AreModes k24_laws (displacements quotient.now orbit.now) (exact_weights weights.now) (irrep_modes_in m) m.sites) }
-    ensures size { IfOk result (λ m. m.size ≡ length orbit.now.places * 3) }
-    ensures wide { (f : ℕ) → (result ≡ Err (mode_error.Wide f)) → (f ≡ 5) × IsWideModes k24 (displacements quotient.now orbit.now) (exact_weights weights.now) }
-{
-    let _atoms = orbit.atoms();
-    let joint = match displacement_modes::<Brand, K24>(alloc, quotient, orbit, weights.lists()) {
-        Ok(joint) => joint,
-        Err(LinError::Wide) => return Err(ModeError::Wide(FAMILY)),
-        Err(LinError::NoMemory) => return Err(ModeError::NoMemory),
-    };
-    match free_columns(alloc, &joint.form) {
-        Ok(sites) => Ok(Modes::of_rows(joint.form.width(), joint.rows, sites)),
-        Err(_) => Err(ModeError::NoMemory),
+        Err(error) => Err(cause(error)),
     }
 }

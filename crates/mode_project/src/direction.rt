@@ -24,8 +24,9 @@ use crate::combined::combined_form;
 use crate::errors::FAMILY;
 use crate::laws::law_of_displacements;
 use crate::left::left_form;
+use crate::quantity::PolarVector;
 use crate::range::range_form;
-use crate::rotations::{rotations, ways_to};
+use crate::rotations::{turns_of, ways_to};
 use crate::space::OfSpace;
 use crate::table::{rows_of, table_of};
 use crate::turns::Turns;
@@ -148,7 +149,7 @@ fn displaced_form<S: OfSpace, F: Field>(
 {
     let _order = quotient.order();
     law_of_displacements();
-    let turns = match rotations(alloc, quotient) {
+    let turns = match turns_of(alloc, quotient, &PolarVector) {
         Ok(turns) => turns,
         Err(_) => return Err(LinError::NoMemory),
     };

@@ -9,7 +9,7 @@ ghost use Rattle.lin_alg.specs.Solving.{AreIndependent, plain_rows};
 ghost use Rattle.super_group.specs.Quotient.{SupercellGroup, IsQuotient};
 ghost use Rattle.iso_text.specs.declared.sections.AtomText.{AtomText};
 ghost use Rattle.wyckoff.specs.Orbit.{OrbitView, IsOrbitOf};
-ghost use Rattle.mode_project.specs.AtomSpace.{AtomSpace, IsAtomSpace, IsOrbit, size_of, matrix_of, displacements};
+ghost use Rattle.mode_project.specs.AtomSpace.{AtomSpace, IsAtomSpace, IsOrbit, Quantity, IsQuantity, size_of, matrix_of, space_of, displacements};
 ghost use Rattle.mode_project.specs.Projection.{projection, IsInRange, IsInSum, column_of};
 ghost use Rattle.mode_project.specs.Modes.{AreModes, all_modes, vector_at, before_irrep};
 ghost use Rattle.mode_project.specs.Amplitudes.{AreAmplitudes, IsModeBasis};
@@ -19,11 +19,18 @@ ghost use Rattle.mode_project.specs.OneBasis.{AreAlike};
 use cyclo24::Field;
 use wyckoff::{law_of_images, law_of_orbits};
 
+/// What the atoms of an orbit have is moved by the group of the quotient.
+pub fn law_of_spaces()
+    ensures { (g : SupercellGroup) (o : OrbitView) (k : Quantity) → IsQuotient g → IsOrbit g o → IsQuantity k → IsAtomSpace (space_of g o k) }
+{
+    law_of_images();
+}
+
 /// The displacements of the atoms of an orbit are moved by the group of the quotient.
 pub fn law_of_displacements()
     ensures { (g : SupercellGroup) (o : OrbitView) → IsQuotient g → IsOrbit g o → IsAtomSpace (displacements g o) }
 {
-    law_of_images();
+    law_of_spaces();
 }
 
 /// M(a) M(b) = M(a b). P commutes with each M(q), where the weights are a class function. The range of
@@ -56,9 +63,16 @@ pub fn law_of_one_basis<F: Field>()
     ensures direction { (s t : AtomSpace) (w : ℕ → Value F.field) (h : List ℕ) (rs ts : List (ℕ × (ℕ → Value F.field))) → AreAlike s t → All (λ q. q < s.group.order) h → AreModesOf F.field.laws s w h rs → AreModesOf F.field.laws t w h ts → rs ≡ ts }
 {}
 
+/// What the atoms have is alike on all orbits of one atom.
+pub fn law_of_one_space()
+    ensures { (g : SupercellGroup) (atom : AtomText) (o u : OrbitView) (k : Quantity) → IsQuotient g → IsOrbitOf g atom o → IsOrbitOf g atom u → AreAlike (space_of g o k) (space_of g u k) }
+{
+    law_of_orbits();
+}
+
 /// All orbits of one atom have alike displacements.
 pub fn law_of_one_orbit()
     ensures { (g : SupercellGroup) (atom : AtomText) (o u : OrbitView) → IsQuotient g → IsOrbitOf g atom o → IsOrbitOf g atom u → AreAlike (displacements g o) (displacements g u) }
 {
-    law_of_orbits();
+    law_of_one_space();
 }

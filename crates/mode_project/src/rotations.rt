@@ -1,31 +1,36 @@
-// The table of displacements, and ways to the atoms of an orbit.
+// The table of a space, and ways to the atoms of an orbit.
 ghost use Rattle.std.specs.Prelude.{◌≡◌, ◌<◌, ℕ, IfOk, length};
 ghost use Rattle.super_group.specs.Quotient.{order_of};
 ghost use Rattle.wyckoff.specs.Orbit.{OrbitView, image_of};
-ghost use Rattle.mode_project.specs.AtomSpace.{IsOrbit, displacements};
+ghost use Rattle.mode_project.specs.AtomSpace.{Quantity, IsOrbit, space_of};
 ghost use Rattle.mode_project.specs.Turns.{IsTurnTable, IsReached, AreWays};
 
+use crate::quantity::AtomQuantity;
 use crate::turns::Turns;
 use iso_text::NoMemory;
 use std::alloc::Global;
 use super_group::Quotient;
 use wyckoff::{Orbit, law_of_images};
 
-// The rotations of the elements.
-pub(crate) fn rotations(alloc: Global, quotient: &Quotient) -> Result<Turns, NoMemory>
-    ensures { IfOk result (λ turns. (o : OrbitView) → IsTurnTable (displacements quotient.now o) turns) }
+// The matrices of the elements.
+pub(crate) fn turns_of<K: AtomQuantity>(
+    alloc: Global,
+    quotient: &Quotient,
+    kind: &K,
+) -> Result<Turns, NoMemory>
+    ensures { IfOk result (λ turns. (o : OrbitView) → IsTurnTable (space_of quotient.now o (K.quantity kind.now)) turns) }
 {
     let _order = quotient.order();
     let translations = quotient.translations().len();
     let mut matrices = Vec::new(alloc);
     for r in 0..quotient.group().len() {
-        match matrices.push(quotient.group().op(r).rot) {
+        match matrices.push(kind.matrix(quotient.group().op(r))) {
             Ok(()) => {}
             Err(_) => return Err(NoMemory),
         }
     }
     Ok(Turns {
-        each: 3,
+        each: kind.each(),
         translations,
         matrices,
     })
@@ -66,7 +71,7 @@ pub(crate) fn ways_to(
     orbit: &Orbit,
 ) -> Result<Vec<(usize, usize)>, NoMemory>
     requires { IsOrbit quotient.now orbit.now }
-    ensures { IfOk result (λ ways. AreWays (displacements quotient.now orbit.now) ways.items (length orbit.now.places)) }
+    ensures { IfOk result (λ ways. (k : Quantity) → AreWays (space_of quotient.now orbit.now k) ways.items (length orbit.now.places)) }
 {
     let elements = match elements_to(alloc, quotient, orbit) {
         Ok(elements) => elements,

@@ -1,36 +1,47 @@
-use Rattle.std.proofs.Common.{◌≡◌, ◌<◌, ℕ, [], List, length, refl, sym, ap, subst}
+use Rattle.std.proofs.Common.{◌≡◌, ◌<◌, ◌≤◌, ◌*◌, ℕ, List, length, sym, ap, subst, arith}
 use Rattle.std.specs.Prelude.{Err, slice_index}
+use Rattle.lin_alg.specs.declared.errors.LinError.TheVariants.{Wide}
 use Rattle.cyclo24.specs.declared.k24.K24.{K24}
 use Rattle.cyclo24.specs.ExactK24.{k24, k24_laws}
 use Rattle.cyclo24.specs.K24.{exact24}
 use Rattle.lin_alg.specs.Rows.{exact_rows}
-use Rattle.mode_project.specs.AtomSpace.{displacements}
-use Rattle.mode_project.specs.Joined.{lines_in, joined_rows_in}
+use Rattle.mode_project.specs.AtomSpace.{space_of}
+use Rattle.mode_project.specs.Joined.{joined_rows_in}
 use Rattle.mode_project.specs.Modes.{AreIrrepModes, AreModes}
 use Rattle.mode_project.specs.Weights.{exact_weights}
 use Rattle.mode_project.specs.Wide.{IsWideModes}
-use Rattle.mode_project.proofs.FinalLemmas.{weight-at, final-modes, free-inside, same-family}
+use Rattle.mode_project.proofs.DirectionLemmas.{few-numbers}
+use Rattle.mode_project.proofs.FinalLemmas.{weight-at, final-modes, free-inside, same-error}
 use Rattle.mode_project.proofs.basis.find_modes.Goals as goal
 
-pub displacement_modes-requires-clause-weights : goal.displacement_modes-requires-clause-weights
-displacement_modes-requires-clause-weights c j l = (weight-at c.args.quotient.now c.lists.result.now c.args.weights.now c.lists.ensures c.requires.weights j l).count
+pub quantity_modes-requires-clause-weights : goal.quantity_modes-requires-clause-weights
+quantity_modes-requires-clause-weights g c j l = (weight-at c.args.quotient.now c.lists.result.now c.args.weights.now c.lists.ensures c.requires.weights j l).count
 
-pub displacement_modes-requires-clause-class : goal.displacement_modes-requires-clause-class
-displacement_modes-requires-clause-class c j l = (weight-at c.args.quotient.now c.lists.result.now c.args.weights.now c.lists.ensures c.requires.weights j l).class
+pub quantity_modes-requires-clause-class : goal.quantity_modes-requires-clause-class
+quantity_modes-requires-clause-class g c j l = (weight-at c.args.quotient.now c.lists.result.now c.args.weights.now c.lists.ensures c.requires.weights j l).class
 
-pub returns-in-Err-Wide-clause-wide : goal.returns-in-Err-Wide-clause-wide
-returns-in-Err-Wide-clause-wide c f e =
-    let s = displacements c.args.quotient.now c.args.orbit.now in
-    (same-family 5 f e, subst (λ (xs : List (List K24)). IsWideModes k24 s (exact_weights xs)) c.lists.ensures (c.in-Err-Wide.ensures.wide (ap Err c.in-Err-Wide.field-0-is)))
+pub returns-in-Err-clause-wide : goal.returns-in-Err-clause-wide
+returns-in-Err-clause-wide g c e =
+    let s = space_of c.args.quotient.now c.args.orbit.now (g.K.AtomQuantity.quantity c.args.kind.now) in
+    subst (λ (xs : List (List K24)). IsWideModes k24 s (exact_weights xs)) c.lists.ensures (c.in-Err.ensures.wide (ap Err (same-error c.in-Err.error Wide e)))
+
+pub of_rows-requires-clause-small : goal.of_rows-requires-clause-small
+of_rows-requires-clause-small g c =
+    let k = g.K.AtomQuantity.quantity c.args.kind.now in
+    let n = length c.args.orbit.now.places in
+    let few : n ≤ 384 = omega (arith, c.atoms-atoms.ensures.value, c.atoms-atoms.ensures.few) in
+    let all : n * k.each ≤ 1152 = few-numbers n k.each few (g.met.K.AtomQuantity.lawful c.args.kind.now).few in
+    let width : c.in-Ok.joint.form.width ≡ n * k.each = c.in-Ok.ensures.width in
+    omega (arith, all, width, c.width.ensures)
 
 pub of_rows-requires-clause-inside : goal.of_rows-requires-clause-inside
-of_rows-requires-clause-inside c k l =
+of_rows-requires-clause-inside g c k l =
     subst (λ (n : ℕ). slice_index c.in-Ok-free_columns.sites.items k < n) (sym c.width.ensures)
     (free-inside c.in-Ok.joint.form.width c.in-Ok.joint.form.rows c.in-Ok-free_columns.sites.items c.in-Ok-free_columns.ensures k l)
 
 pub returns-in-Ok-free_columns-clause-modes : goal.returns-in-Ok-free_columns-clause-modes
-returns-in-Ok-free_columns-clause-modes c =
-    let s = displacements c.args.quotient.now c.args.orbit.now in
+returns-in-Ok-free_columns-clause-modes g c =
+    let s = space_of c.args.quotient.now c.args.orbit.now (g.K.AtomQuantity.quantity c.args.kind.now) in
     let ws = exact_weights c.args.weights.now in
     let rows = c.in-Ok.joint.rows.items in
     let sites = c.in-Ok-free_columns.sites.items in

@@ -1,5 +1,5 @@
-use Rattle.mode_project.specs.AtomSpace.{displacements}
+use Rattle.mode_project.specs.AtomSpace.{space_of}
 use Rattle.mode_project.proofs.basis.find_modes.Given as goal
 
-abbrev pub ghosts-displacement_modes : goal.ghosts-displacement_modes
-ghosts-displacement_modes a = record { space = displacements a.quotient.now a.orbit.now }
+abbrev pub ghosts-quantity_modes : goal.ghosts-quantity_modes
+ghosts-quantity_modes g a = record { space = space_of a.quotient.now a.orbit.now (g.K.AtomQuantity.quantity a.kind.now) }

@@ -1,37 +1,17 @@
-use Rattle.std.proofs.Common.{◌≡◌, ◌<◌, ◌≤◌, ℕ, length, sym, subst}
+use Rattle.std.proofs.Common.{◌<◌, ℕ, length, sym, ap, subst}
+use Rattle.std.specs.Prelude.{Err}
 use Rattle.cyclo24.specs.ExactK24.{k24, k24_laws}
 use Rattle.cyclo24.specs.K24.{exact24}
 use Rattle.mode_project.specs.ApartLaws.{ranges-meet, own-span}
 use Rattle.mode_project.specs.AtomSpace.{displacements}
-use Rattle.mode_project.specs.ModeLaws.{modes-sums}
 use Rattle.mode_project.specs.Modes.{vector_at}
 use Rattle.mode_project.specs.ModesView.{irrep_modes_in}
 use Rattle.mode_project.specs.ProjectionLaws.{projection-commutes}
 use Rattle.mode_project.specs.Weights.{exact_weights}
-use Rattle.mode_project.proofs.FinalLemmas.{final-count, final-independent, final-span, weight-class}
+use Rattle.mode_project.specs.declared.errors.ModeError.TheVariants.{Wide}
+use Rattle.mode_project.proofs.FinalLemmas.{weight-class, same-cause}
 use Rattle.mode_project.proofs.JointLemmas.{lists-length}
 use Rattle.mode_project.proofs.basis.modes.Goals as goal
-
-pub returns-in-Ok-clause-count : goal.returns-in-Ok-clause-count
-returns-in-Ok-clause-count c =
-    let m = c.in-Ok.found in
-    final-count k24 exact24 (displacements c.args.quotient.now c.args.orbit.now) (exact_weights c.args.weights.now) m.rows m.sites c.in-Ok.ensures.modes
-
-pub returns-in-Ok-clause-independent : goal.returns-in-Ok-clause-independent
-returns-in-Ok-clause-independent c =
-    let m = c.in-Ok.found in
-    final-independent k24 exact24 (displacements c.args.quotient.now c.args.orbit.now) (exact_weights c.args.weights.now) m.rows m.sites c.in-Ok.ensures.modes
-
-pub returns-in-Ok-clause-spanning : goal.returns-in-Ok-clause-spanning
-returns-in-Ok-clause-spanning c =
-    let m = c.in-Ok.found in
-    final-span k24 exact24 (displacements c.args.quotient.now c.args.orbit.now) (exact_weights c.args.weights.now) m.rows m.sites c.in-Ok.ensures.modes
-
-pub returns-in-Ok-clause-sums : goal.returns-in-Ok-clause-sums
-returns-in-Ok-clause-sums c j l =
-    let m = c.in-Ok.found in
-    let n : j ≤ length (exact_weights c.args.weights.now) = subst (λ (k : ℕ). j ≤ k) (sym (lists-length k24 exact24 c.args.weights.now)) l in
-    modes-sums k24_laws (displacements c.args.quotient.now c.args.orbit.now) (exact_weights c.args.weights.now) (irrep_modes_in m) m.sites c.in-Ok.ensures.modes j n
 
 pub returns-in-Ok-clause-commutes : goal.returns-in-Ok-clause-commutes
 returns-in-Ok-clause-commutes c j q lj lq v i li =
@@ -69,3 +49,8 @@ returns-in-Ok-clause-own c a j l =
     let m = c.in-Ok.found in
     let n : j < length ws = subst (λ (k : ℕ). j < k) (sym (lists-length k24 exact24 c.args.weights.now)) l in
     own-span k24_laws c.law_of_squares.ensures (displacements g o) (c.law_of_displacements.ensures g o c.order-order.ensures.quotient c.requires.orbit) ws (irrep_modes_in m) c.in-Ok.ensures.modes.irreps a j n
+
+pub returns-in-Err-clause-wide : goal.returns-in-Err-clause-wide
+returns-in-Err-clause-wide c f e =
+    let k = c.cause.ensures f (same-cause c.cause.result (Wide f) e) in
+    (k.0, c.in-Err.ensures.wide (ap Err k.1))

@@ -1,4 +1,4 @@
-use Rattle.std.proofs.Common.{rules, ◌≡◌, ◌<◌, ℕ, refl, sym, ◌∙◌, ap, subst, arith, length}
+use Rattle.std.proofs.Common.{◌≡◌, ◌<◌, ℕ, sym, ◌∙◌, ap, subst, arith, length}
 use Rattle.lin_alg.specs.Matrix.{entry, IsWideDot}
 use Rattle.lin_alg.specs.Rows.{vector}
 use Rattle.mode_project.specs.Parts.{rows_in, row_in}

@@ -1,4 +1,4 @@
-use Rattle.std.proofs.Common.{rules, ◌≡◌, ◌<◌, ◌≤◌, ◌+◌, ℕ, sym, ◌∙◌, ap, subst, arith, length}
+use Rattle.std.proofs.Common.{◌≡◌, ◌+◌, ℕ, ◌∙◌, ap, subst, arith, length}
 use Rattle.std.specs.Prelude.{Err}
 use Rattle.lin_alg.specs.Matrix.{entry}
 use Rattle.lin_alg.specs.declared.errors.LinError.TheVariants.{Wide}

@@ -1,12 +1,6 @@
-use Rattle.std.proofs.Common.{rules, ◌≡◌, ◌<◌, ◌≤◌, ◌+◌, ◌-◌, ◌*◌, ℕ, List, inl, inr, refl, sym, ◌∙◌, ap, subst, arith, length}
-use Rattle.std.specs.Prelude.{Err, slice_index, slice_index_or}
-use Rattle.lin_alg.specs.Rows.{vector, exact_rows}
-use Rattle.lin_alg.specs.Spans.{row_vectors}
-use Rattle.lin_alg.specs.declared.errors.LinError.TheVariants.{Wide}
-use Rattle.mode_project.specs.AtomSpace.{AtomSpace, IsAtomSpace, size_of, displacements}
-use Rattle.mode_project.specs.DirectionModes.{AreModesOf}
-use Rattle.mode_project.specs.Modes.{vector_at}
-use Rattle.mode_project.specs.Parts.{rows_in, row_in}
+use Rattle.std.proofs.Common.{refl, sym, subst, length}
+use Rattle.lin_alg.specs.Rows.{vector}
+use Rattle.mode_project.specs.AtomSpace.{AtomSpace, IsAtomSpace, displacements, polar_vector}
 use Rattle.mode_project.specs.Turns.{IsTurnTable, IsOrbitIn, AreWays}
 use Rattle.mode_project.specs.Wide.{IsWideModesOf}
 use Rattle.mode_project.proofs.direction.displaced_form.Goals as goal
@@ -26,7 +20,7 @@ direction_form-requires-clause-table g c =
 pub direction_form-requires-clause-ways : goal.direction_form-requires-clause-ways
 direction_form-requires-clause-ways g c =
     let e = c.deref.ensures.value in
-    subst (λ (s : AtomSpace). AreWays s c.deref.result.now s.atoms) (sym c.requires.space) (subst (λ xs. AreWays (displacements c.args.quotient.now c.args.orbit.now) xs (length c.args.orbit.now.places)) (sym e) c.in-Ok-ways_to.ensures)
+    subst (λ (s : AtomSpace). AreWays s c.deref.result.now s.atoms) (sym c.requires.space) (subst (λ xs. AreWays (displacements c.args.quotient.now c.args.orbit.now) xs (length c.args.orbit.now.places)) (sym e) (c.in-Ok-ways_to.ensures polar_vector))
 
 pub returns-clause-wide : goal.returns-clause-wide
 returns-clause-wide g c w =

@@ -1,9 +1,7 @@
-use Rattle.std.proofs.Common.{rules, ◌≡◌, ◌<◌, ◌≤◌, ◌-◌, ◌*◌, ℕ, sym, ◌∙◌, ap, subst, arith, length}
-use Rattle.std.specs.Prelude.{Err}
+use Rattle.std.proofs.Common.{◌≡◌, ◌<◌, ◌≤◌, ◌-◌, ◌*◌, ℕ, sym, ◌∙◌, subst, arith, length}
 use Rattle.lin_alg.specs.FormLaws.{form-length}
 use Rattle.lin_alg.specs.Matrix.{entry}
 use Rattle.lin_alg.specs.Rows.{exact_rows}
-use Rattle.lin_alg.specs.declared.errors.LinError.TheVariants.{Wide}
 use Rattle.mode_project.specs.AtomSpace.{size_of}
 use Rattle.mode_project.specs.DirectionParts.{combined, IsWideCombined}
 use Rattle.mode_project.specs.Parts.{rows_in, row_in, HoldsSpan}

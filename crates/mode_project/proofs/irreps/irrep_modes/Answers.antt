@@ -1,4 +1,4 @@
-use Rattle.std.proofs.Common.{rules, ◌≡◌, ◌<◌, ◌≤◌, ◌+◌, ◌*◌, ◌⊎◌, ℕ, suc, [], ◌∷◌, ◌++◌, inl, inr, refl, sym, ◌∙◌, ap, subst, arith, add-one, List, length, map, take}
+use Rattle.std.proofs.Common.{◌≡◌, ◌<◌, ◌≤◌, ◌+◌, ◌*◌, ◌⊎◌, ℕ, [], inl, inr, refl, sym, ◌∙◌, ap, subst, arith, add-one, List, length, map, take}
 use Rattle.std.proofs.lemmas.List.{take_all}
 use Rattle.std.specs.Prelude.{slice_index_or}
 use Rattle.cyclo24.specs.ExactField.{Value}
@@ -9,7 +9,7 @@ use Rattle.mode_project.specs.Joined.{joined_rows_in}
 use Rattle.mode_project.specs.Modes.{marked, AreKept, AreIrrepModes}
 use Rattle.mode_project.specs.Parts.{rows_in}
 use Rattle.mode_project.specs.Projection.{projection, IsInRange, IsReducedFormOf}
-use Rattle.mode_project.specs.Wide.{IsWideRange, IsWideModes}
+use Rattle.mode_project.specs.Wide.{IsWideRange}
 use Rattle.mode_project.specs.WideParts.{IsWideRows}
 use Rattle.mode_project.proofs.JointLemmas.{joined-start, modes-next, rows-wide, list-at, lists-length, lists-take, lists-front}
 use Rattle.mode_project.proofs.VectorsLemmas.{item-is, rows-length}

@@ -1,12 +1,10 @@
-use Rattle.std.proofs.Common.{rules, ◌≡◌, ◌<◌, ◌≤◌, ◌+◌, ◌++◌, ◌∷◌, [], ℕ, inl, inr, refl, sym, ◌∙◌, ap, subst, arith, List, length, take, get_or}
+use Rattle.std.proofs.Common.{◌≡◌, ◌<◌, ◌≤◌, ◌+◌, ◌++◌, ◌∷◌, [], refl, sym, ◌∙◌, ap, subst, arith, length, take}
 use Rattle.std.proofs.lemmas.List.{take_all}
 use Rattle.std.specs.Prelude.{slice_index_or}
-use Rattle.cyclo24.specs.ExactField.{Value}
 use Rattle.lin_alg.specs.Rows.{vector, exact_rows}
-use Rattle.lin_alg.specs.Spans.{row_vectors}
 use Rattle.mode_project.specs.Joined.{joined_rows_in}
-use Rattle.mode_project.specs.Modes.{marked, IsKept, AreKept, vector_at}
-use Rattle.mode_project.proofs.JointLemmas.{row-at, exact-length, marked-next, kept-more, range-row-wide, range-row, width-at}
+use Rattle.mode_project.specs.Modes.{marked, IsKept, AreKept}
+use Rattle.mode_project.proofs.JointLemmas.{exact-length, kept-more, range-row-wide, range-row, width-at}
 use Rattle.mode_project.proofs.joint.with_range.Goals as goal
 
 pub loop-k-init : goal.loop-k-init

@@ -1,10 +1,9 @@
-use Rattle.std.proofs.Common.{rules, ◌≡◌, ◌<◌, ◌∷◌, [], ◌++◌, ℕ, inl, inr, refl, sym, ◌∙◌, ap, subst, length, List}
-use Rattle.cyclo24.specs.ExactField.{Value}
+use Rattle.std.proofs.Common.{◌≡◌, ◌∷◌, [], ◌++◌, sym, ◌∙◌, ap, subst, length}
 use Rattle.lin_alg.specs.Rows.{vector, exact_rows}
 use Rattle.lin_alg.specs.Insertion.{IsWideInsert}
 use Rattle.std.specs.Prelude.{Err}
 use Rattle.lin_alg.specs.declared.errors.LinError.TheVariants.{Wide}
-use Rattle.mode_project.specs.Joined.{joined_rows_in, IsJoined}
+use Rattle.mode_project.specs.Joined.{joined_rows_in}
 use Rattle.mode_project.specs.Modes.{IsKept}
 use Rattle.mode_project.proofs.JointLemmas.{joined-last, joined-yes, joined-no, kept-yes, kept-no}
 use Rattle.mode_project.proofs.joint.with_row.Goals as goal

@@ -1,4 +1,4 @@
-use Rattle.std.proofs.Common.{rules, ◌≡◌, ◌<◌, ◌≤◌, ◌+◌, ℕ, IsTrue, sym, ◌∙◌, ap, subst, arith, below_more, length, set}
+use Rattle.std.proofs.Common.{◌≡◌, ◌<◌, ℕ, IsTrue, sym, ◌∙◌, subst, arith, below_more, length, set}
 use Rattle.lin_alg.specs.Rows.{vector}
 use Rattle.mode_project.specs.Parts.{rows_in, row_in}
 use Rattle.mode_project.proofs.TermLemmas.{on-err}

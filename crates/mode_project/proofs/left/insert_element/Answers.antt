@@ -1,4 +1,4 @@
-use Rattle.std.proofs.Common.{rules, ◌≡◌, ◌<◌, ◌+◌, ◌*◌, ℕ, inl, inr, sym, ◌∙◌, ap, subst, arith, length}
+use Rattle.std.proofs.Common.{◌≡◌, ◌<◌, ◌+◌, ◌*◌, ℕ, inl, ◌∙◌, ap, subst, arith, length}
 use Rattle.std.specs.Prelude.{Err, slice_index}
 use Rattle.lin_alg.specs.declared.errors.LinError.TheVariants.{Wide}
 use Rattle.mode_project.specs.AtomSpace.{size_of}

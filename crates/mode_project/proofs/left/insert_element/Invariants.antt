@@ -1,4 +1,4 @@
-use Rattle.std.proofs.Common.{◌≡◌, ◌+◌, ◌*◌, length}
+use Rattle.std.proofs.Common.{◌+◌, ◌*◌, length}
 use Rattle.mode_project.specs.AtomSpace.{size_of}
 use Rattle.mode_project.specs.Parts.{rows_in, row_in, HoldsSpan}
 use Rattle.mode_project.specs.Wide.{left_row}

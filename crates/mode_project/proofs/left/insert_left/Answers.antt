@@ -1,4 +1,4 @@
-use Rattle.std.proofs.Common.{rules, ◌≡◌, ◌<◌, ◌+◌, ◌*◌, ℕ, suc, IsTrue, inl, inr, sym, ◌∙◌, ap, subst, arith, length}
+use Rattle.std.proofs.Common.{◌≡◌, ◌+◌, ◌*◌, suc, IsTrue, inl, inr, sym, ◌∙◌, ap, subst, arith, length}
 use Rattle.std.specs.Prelude.{Err}
 use Rattle.lin_alg.specs.Rows.{vector}
 use Rattle.lin_alg.specs.declared.errors.LinError.TheVariants.{Wide}

@@ -1,6 +1,4 @@
-use Rattle.std.proofs.Common.{rules, ◌≡◌, ◌<◌, ◌+◌, ◌*◌, ℕ, sym, ◌∙◌, ap, subst, arith, length}
-use Rattle.std.specs.Prelude.{Err}
-use Rattle.lin_alg.specs.declared.errors.LinError.TheVariants.{Wide}
+use Rattle.std.proofs.Common.{◌≡◌, ◌*◌, ℕ, subst, arith, length}
 use Rattle.mode_project.specs.AtomSpace.{size_of}
 use Rattle.mode_project.specs.Parts.{rows_in, row_in, HoldsSpan}
 use Rattle.mode_project.specs.Wide.{left_row}

@@ -1,4 +1,4 @@
-use Rattle.std.proofs.Common.{◌≡◌, ◌<◌, ◌≤◌, ℕ, [], false, nat_eq, sym, ◌∙◌, ap, subst, arith, below_more, length}
+use Rattle.std.proofs.Common.{◌≡◌, ◌<◌, ◌≤◌, [], false, nat_eq, sym, ◌∙◌, arith, below_more, length}
 use Rattle.std.specs.Prelude.{slice_index_or}
 use Rattle.lin_alg.specs.EquationLaws.{eq-other}
 use Rattle.mode_project.proofs.SiteLemmas.{pivot-none, pivot-some}

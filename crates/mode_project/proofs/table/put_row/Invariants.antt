@@ -1,4 +1,4 @@
-use Rattle.std.proofs.Common.{◌≡◌, ◌<◌, ◌≤◌, ℕ}
+use Rattle.std.proofs.Common.{◌≡◌, ◌<◌, ℕ}
 use Rattle.lin_alg.specs.Matrix.{entry}
 use Rattle.lin_alg.specs.Rows.{vector}
 use Rattle.mode_project.proofs.table.put_row.Given as goal

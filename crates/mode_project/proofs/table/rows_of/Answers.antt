@@ -1,4 +1,4 @@
-use Rattle.std.proofs.Common.{rules, ◌≡◌, ◌<◌, ℕ, sym, ◌∙◌, ap, subst, arith, length}
+use Rattle.std.proofs.Common.{◌≡◌, ◌<◌, ℕ, sym, ◌∙◌, ap, subst, arith, length}
 use Rattle.lin_alg.specs.Rows.{vector, exact_rows}
 use Rattle.lin_alg.specs.Spans.{row_vectors}
 use Rattle.mode_project.specs.Modes.{vector_at}

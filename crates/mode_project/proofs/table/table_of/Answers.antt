@@ -1,4 +1,4 @@
-use Rattle.std.proofs.Common.{rules, ◌≡◌, ◌<◌, ℕ, sym, ◌∙◌, ap, arith, below_more, length}
+use Rattle.std.proofs.Common.{◌≡◌, ◌<◌, sym, ◌∙◌, ap, arith, below_more, length}
 use Rattle.lin_alg.specs.Matrix.{entry}
 use Rattle.lin_alg.specs.Rows.{vector, exact_rows}
 use Rattle.lin_alg.specs.Spans.{row_vectors}

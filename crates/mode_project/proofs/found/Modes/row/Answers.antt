@@ -1,4 +1,4 @@
-use Rattle.std.proofs.Common.{◌≡◌, ◌<◌, ◌∙◌, ap, sym, subst, length}
+use Rattle.std.proofs.Common.{◌<◌, ◌∙◌, ap, sym, subst, length}
 use Rattle.mode_project.specs.ModesView.{ModesView}
 use Rattle.mode_project.proofs.FoundLemmas.{held-long}
 use Rattle.mode_project.proofs.found.Modes.row.Goals as goal

@@ -1,4 +1,4 @@
-use Rattle.std.proofs.Common.{◌≡◌, ◌<◌, ◌+◌, ◌-◌, arith, length, sym, ◌∙◌}
+use Rattle.std.proofs.Common.{◌≡◌, ◌<◌, ◌+◌, ◌-◌, arith, length}
 use Rattle.cyclo24.specs.ExactK24.{k24}
 use Rattle.cyclo24.specs.K24.{exact24}
 use Rattle.mode_project.proofs.FoundLemmas.{found-row, found-site, found-other}

@@ -1,18 +1,18 @@
-use Rattle.std.proofs.Common.{rules, [], ◌≡◌, ◌<◌, ◌*◌, ℕ, refl, sym, ◌∙◌, ap, subst, length, map}
+use Rattle.std.proofs.Common.{[], refl, sym, ◌∙◌, ap, subst, length, map}
 use Rattle.std.specs.Prelude.{slice_index_or}
 use Rattle.lin_alg.specs.Matrices.{IsClassFunction}
 use Rattle.lin_alg.specs.Rows.{vector}
-use Rattle.mode_project.specs.AtomSpace.{AtomSpace, IsAtomSpace, size_of, displacements}
+use Rattle.mode_project.specs.AtomSpace.{AtomSpace, IsAtomSpace, size_of, space_of}
 use Rattle.mode_project.specs.Joined.{joined_rows_in}
 use Rattle.mode_project.specs.Modes.{AreIrrepModes}
 use Rattle.mode_project.specs.Parts.{rows_in}
 use Rattle.mode_project.specs.Turns.{IsTurnTable, IsOrbitIn, AreWays}
 use Rattle.mode_project.specs.Wide.{IsWideModes}
-use Rattle.mode_project.proofs.displaced.displacement_modes.Goals as goal
+use Rattle.mode_project.proofs.quantity_modes.quantity_modes.Goals as goal
 
 pub irrep_modes-requires-clause-laws : goal.irrep_modes-requires-clause-laws
 irrep_modes-requires-clause-laws g c =
-    subst IsAtomSpace (sym c.requires.space) (c.law_of_displacements.ensures c.args.quotient.now c.args.orbit.now c.order-order.ensures.quotient c.requires.orbit)
+    subst IsAtomSpace (sym c.requires.space) (c.law_of_spaces.ensures c.args.quotient.now c.args.orbit.now (g.K.AtomQuantity.quantity c.args.kind.now) c.order-order.ensures.quotient c.requires.orbit (g.met.K.AtomQuantity.lawful c.args.kind.now))
 
 pub irrep_modes-requires-clause-orbit : goal.irrep_modes-requires-clause-orbit
 irrep_modes-requires-clause-orbit g c =
@@ -25,7 +25,7 @@ irrep_modes-requires-clause-table g c =
 pub irrep_modes-requires-clause-ways : goal.irrep_modes-requires-clause-ways
 irrep_modes-requires-clause-ways g c =
     let e = c.deref.ensures.value in
-    subst (λ (s : AtomSpace). AreWays s c.deref.result.now s.atoms) (sym c.requires.space) (subst (λ xs. AreWays (displacements c.args.quotient.now c.args.orbit.now) xs (length c.args.orbit.now.places)) (sym e) c.in-Ok-ways_to.ensures)
+    subst (λ (s : AtomSpace). AreWays s c.deref.result.now s.atoms) (sym c.requires.space) (subst (λ xs. AreWays (space_of c.args.quotient.now c.args.orbit.now (g.K.AtomQuantity.quantity c.args.kind.now)) xs (length c.args.orbit.now.places)) (sym e) (c.in-Ok-ways_to.ensures (g.K.AtomQuantity.quantity c.args.kind.now)))
 
 pub irrep_modes-requires-clause-weights : goal.irrep_modes-requires-clause-weights
 irrep_modes-requires-clause-weights g c j l = c.requires.weights j l ∙ ap (λ (s : AtomSpace). s.group.order) (sym c.requires.space)

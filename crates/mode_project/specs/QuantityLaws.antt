@@ -1,7 +1,9 @@
--- The rotations of elements multiply as the quotient does.
+-- The matrices of elements multiply as the quotient does.
 --
+-- entry-product, entry-unit: entries of a product of 3 by 3 matrices, and of the unit matrix
+-- polar-lawful: displacements
 -- turn-unit: element 0 doesn't turn
--- turn-product: the rotation of a product is the product of the rotations
+-- turn-product: the matrix of a product is the product of the matrices
 -- turn-listed: element r T + t has rotation r
 use Rattle.std.proofs.Common.{◌≡◌, ℕ, suc, zero, ◌<◌, ◌/◌, refl, sym, ◌∙◌, ap, arith, nat_eq, if◌then◌else◌, ℤ, pos, ◌+ℤ◌, ◌*ℤ◌, length}
 use Rattle.algebra.specs.Sums as sums
@@ -13,7 +15,7 @@ use Rattle.space_ops.specs.Words.{op_at}
 use Rattle.super_group.specs.ElementLaws.{element-identity}
 use Rattle.super_group.specs.Quotient.{SupercellGroup, IsQuotient, order_of, element_of, quotient_group}
 use Rattle.super_group.specs.QuotientLaws.{element-number, element-member, product-member, element-parts}
-use Rattle.mode_project.specs.AtomSpace.{matrix_entry}
+use Rattle.mode_project.specs.AtomSpace.{matrix_entry, Quantity, IsQuantity, polar_vector}
 
 -- a row times a column, from left to right
 three-sum : (x y z : ℤ) → (x +ℤ y) +ℤ z ≡ ((pos 0 +ℤ x) +ℤ y) +ℤ z
@@ -32,7 +34,7 @@ entry-product m n (suc (suc a)) zero la lb = three-sum (m.r20 *ℤ n.r00) (m.r21
 entry-product m n (suc (suc a)) (suc zero) la lb = three-sum (m.r20 *ℤ n.r01) (m.r21 *ℤ n.r11) (m.r22 *ℤ n.r21)
 entry-product m n (suc (suc a)) (suc (suc b)) la lb = three-sum (m.r20 *ℤ n.r02) (m.r21 *ℤ n.r12) (m.r22 *ℤ n.r22)
 
-entry-unit : (a b : ℕ) → a < 3 → b < 3 → matrix_entry (unit_matrix whole) a b ≡ (if nat_eq a b then pos 1 else pos 0)
+pub entry-unit : (a b : ℕ) → a < 3 → b < 3 → matrix_entry (unit_matrix whole) a b ≡ (if nat_eq a b then pos 1 else pos 0)
 entry-unit zero zero la lb = refl
 entry-unit zero (suc zero) la lb = refl
 entry-unit zero (suc (suc zero)) la lb = refl
@@ -47,18 +49,22 @@ entry-unit (suc (suc zero)) (suc (suc zero)) la lb = refl
 entry-unit (suc (suc zero)) (suc (suc (suc b))) la lb = absurd (omega (arith, lb))
 entry-unit (suc (suc (suc a))) b la lb = absurd (omega (arith, la))
 
-module _ (g : SupercellGroup) (h : IsQuotient g) where
-  pub turn-unit : (a b : ℕ) → a < 3 → b < 3 → matrix_entry (element_of g 0).rot a b ≡ (if nat_eq a b then pos 1 else pos 0)
-  turn-unit a b la lb = ap (λ e. matrix_entry e.rot a b) (element-identity g h) ∙ entry-unit a b la lb
+pub polar-lawful : IsQuantity polar_vector
+polar-lawful = record { few = omega arith; unit = entry-unit; product = entry-product }
 
-  pub turn-product : (p q a b : ℕ) → p < order_of g → q < order_of g → a < 3 → b < 3
-      → matrix_entry (element_of g ((quotient_group g).product p q)).rot a b
-      ≡ sums.total (pos 0) ◌+ℤ◌ 3 (λ c. matrix_entry (element_of g p).rot a c *ℤ matrix_entry (element_of g q).rot c b)
-  turn-product p q a b lp lq la lb =
-      let x = element_of g p in
-      let y = element_of g q in
-      let m = product-member g h x y (element-member g h p lp) (element-member g h q lq) in
-      ap (λ r. matrix_entry r a b) (element-number g h (seitz_product whole x y) m).rotation ∙ entry-product x.rot y.rot a b la lb
+module _ (g : SupercellGroup) (h : IsQuotient g) where
+  module _ (k : Quantity) (law : IsQuantity k) where
+    pub turn-unit : (a b : ℕ) → a < k.each → b < k.each → matrix_entry (k.matrix (element_of g 0).rot) a b ≡ (if nat_eq a b then pos 1 else pos 0)
+    turn-unit a b la lb = ap (λ e. matrix_entry (k.matrix e.rot) a b) (element-identity g h) ∙ law.unit a b la lb
+
+    pub turn-product : (p q a b : ℕ) → p < order_of g → q < order_of g → a < k.each → b < k.each
+        → matrix_entry (k.matrix (element_of g ((quotient_group g).product p q)).rot) a b
+        ≡ sums.total (pos 0) ◌+ℤ◌ k.each (λ c. matrix_entry (k.matrix (element_of g p).rot) a c *ℤ matrix_entry (k.matrix (element_of g q).rot) c b)
+    turn-product p q a b lp lq la lb =
+        let x = element_of g p in
+        let y = element_of g q in
+        let m = product-member g h x y (element-member g h p lp) (element-member g h q lq) in
+        ap (λ r. matrix_entry (k.matrix r) a b) (element-number g h (seitz_product whole x y) m).rotation ∙ law.product x.rot y.rot a b la lb
 
   pub turn-listed : (q : ℕ) → (op_at g.parent.ops (q / length g.translations)).rot ≡ (element_of g q).rot
   turn-listed q = ap (λ e. e.rot) (sym (element-parts g h q))
