@@ -1,6 +1,5 @@
 pub mod AlikeMatchLemmas
 pub mod HeldLemmas
-pub mod ListLemmas
 pub mod MatchCauseLemmas
 pub mod MatchShiftLemmas
 pub mod OneAmpsLemmas

@@ -25,7 +25,7 @@ use Rattle.mode_report.specs.ModesFound.{AreWideAll, AreToldOf}
 use Rattle.amp_report.specs.AmpsFound.{Moded, IsBasisOf, HaveOrbitModes, matching_of, Shifted, RefusesMatching, RefusesMatch, HaveShifts, AreWideAmplitudes, named_amplitudes, IsToldOf, HaveAmplitudes, RefusesNone, IsReported, AfterShifts, AfterModes, AreAmpsFound}
 use Rattle.amp_report.specs.AmpsReport.{OrbitAmplitudes, amps_text}
 use Rattle.amp_report.proofs.AlikeMatchLemmas.{AreOrbitsAlike, cause-alike, shifts-alike}
-use Rattle.amp_report.proofs.ListLemmas.{each-there}
+use Rattle.amp_report.specs.AmpListLaws.{each-there}
 use Rattle.amp_report.proofs.MatchCauseLemmas.{IsAnswer, causes-one, shifts-or-cause}
 use Rattle.amp_report.proofs.MatchShiftLemmas.{HaveOneDisplacement, HaveOnePlace, shifts-one}
 use Rattle.mode_report.specs.OneWeightLaws.{InduceOne, HaveOneOrbit, HaveOneBasis}

@@ -20,7 +20,7 @@ use Rattle.mode_report.specs.Told.{OrbitModes, counts_text}
 use Rattle.mode_report.specs.OneWeightLaws.{InduceOne, HaveOneOrbit, HaveOneBasis, weights-one}
 use Rattle.amp_report.specs.AmpsFound.{Moded, IsBasisOf, HaveOrbitModes}
 use Rattle.amp_report.proofs.AlikeMatchLemmas.{AreOrbitsAlike}
-use Rattle.amp_report.proofs.ListLemmas.{there, each-by}
+use Rattle.amp_report.specs.AmpListLaws.{there, each-by}
 
 -- ---- orbits and modes
 

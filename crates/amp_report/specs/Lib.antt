@@ -6,5 +6,9 @@ pub mod AmpsReport
 pub mod AmpsFound
 -- what the program holds of amplitudes
 pub mod Held
+-- lists by their elements
+pub mod AmpListLaws
+-- what the program holds of modes and amplitudes, as the definitions name it
+pub mod AmpsHeldLaws
 -- what is found for `amps`, by the program's answer
 pub mod FoundAmps

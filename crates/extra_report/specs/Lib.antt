@@ -6,3 +6,7 @@ pub mod ExtraReport
 pub mod ExtraFound
 -- what is found for them, by the program's answer
 pub mod FoundExtra
+-- what `occ-amps` and `axial-amps` find in a file
+pub mod ExtraAmpsFound
+-- what is found for them, by the program's answer
+pub mod FoundExtraAmps

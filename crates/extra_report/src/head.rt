@@ -17,6 +17,16 @@ pub(crate) fn word_of(nature: Nature) -> &'static [u8]
     }
 }
 
+/// The word of the command for amplitudes.
+pub(crate) fn amps_word_of(nature: Nature) -> &'static [u8]
+    ensures { result.now ≡ amps_word_of nature }
+{
+    match nature {
+        Nature::Occupation => b"occ-amps",
+        Nature::Axial => b"axial-amps",
+    }
+}
+
 /// How many numbers an atom has.
 pub(crate) fn entries_of(nature: Nature) -> AtomEntries
     ensures { result ≡ entries_of nature }

@@ -87,7 +87,7 @@ module _ (space : SupercellGroup → OrbitView → AtomSpace) (family each : ℕ
   )
 
   module _ (sized : (q : SupercellGroup) (o : OrbitView) → size_of (space q o) ≡ length o.places * each) where
-    sizes-are : (q : SupercellGroup) (ws : List (ℕ → Exact24)) (orbits : List OrbitView) (all : List ModesView) → Each (AreModesBy space q ws) orbits all → Each (HasSizeBy each) orbits all
+    pub sizes-are : (q : SupercellGroup) (ws : List (ℕ → Exact24)) (orbits : List OrbitView) (all : List ModesView) → Each (AreModesBy space q ws) orbits all → Each (HasSizeBy each) orbits all
     sizes-are q ws [] [] h = tt
     sizes-are q ws [] (m ∷ all) h = h
     sizes-are q ws (o ∷ orbits) [] h = h

@@ -1,5 +1,5 @@
 // The lines of a mode.
-ghost use Rattle.std.specs.Prelude.{◌≡◌, ◌<◌, ◌*◌, ◌++◌, ℕ, [], OnOk, length, codes, decimal};
+ghost use Rattle.std.specs.Prelude.{◌≡◌, ◌<◌, ◌*◌, ◌++◌, [], OnOk, length, codes, decimal};
 ghost use Rattle.cyclo24.specs.ExactK24.{k24_laws};
 ghost use Rattle.cyclo24.specs.K24.{exact24};
 ghost use Rattle.iso_text.specs.Lines.{line};
@@ -45,11 +45,13 @@ pub fn push_site(
     alloc: Global,
     text: &mut Text,
     entries: AtomEntries,
+    atoms: usize,
     number: u64,
     column: usize,
 ) -> Result<(), NoMemory>
-    ensures { OnOk result ((atoms : ℕ) → column < atoms * each_of entries → text.new ≡ text.old ++ mode_text_by entries atoms (number, (codes "site", unit_vector k24_laws column))) }
+    requires { column < atoms * each_of entries }
+    ensures { OnOk result (text.new ≡ text.old ++ mode_text_by entries atoms (number, (codes "site", unit_vector k24_laws column))) }
 {
     push_mode_head(text, number, b"site")?;
-    push_unit(alloc, text, entries, column)
+    push_unit(alloc, text, entries, atoms, column)
 }

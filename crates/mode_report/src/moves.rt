@@ -148,8 +148,14 @@ fn push_numbers(alloc: Global, text: &mut Text, atoms: usize, row: &[K24]) -> Re
 }
 
 // Adds the line of the one atom whose number is 1 where the mode is 1 in this column and 0 elsewhere.
-fn push_unit_number(alloc: Global, text: &mut Text, column: usize) -> Result<(), NoMemory>
-    ensures { OnOk result ((atoms : ℕ) → column < atoms * 1 → text.new ≡ text.old ++ number_lines atoms (unit_vector k24_laws column)) }
+fn push_unit_number(
+    alloc: Global,
+    text: &mut Text,
+    atoms: usize,
+    column: usize,
+) -> Result<(), NoMemory>
+    requires { column < atoms * 1 }
+    ensures { OnOk result (text.new ≡ text.old ++ number_lines atoms (unit_vector k24_laws column)) }
 {
     let line = number_line(alloc, column as u64 + 1, K24::one())?;
     text.push(line.as_slice())
@@ -177,12 +183,14 @@ pub fn push_unit(
     alloc: Global,
     text: &mut Text,
     entries: AtomEntries,
+    atoms: usize,
     column: usize,
 ) -> Result<(), NoMemory>
-    ensures { OnOk result ((atoms : ℕ) → column < atoms * each_of entries → text.new ≡ text.old ++ moves_by entries atoms (unit_vector k24_laws column)) }
+    requires { column < atoms * each_of entries }
+    ensures { OnOk result (text.new ≡ text.old ++ moves_by entries atoms (unit_vector k24_laws column)) }
 {
     match entries {
-        AtomEntries::One => push_unit_number(alloc, text, column),
+        AtomEntries::One => push_unit_number(alloc, text, atoms, column),
         AtomEntries::Three => push_unit_move(alloc, text, column),
     }
 }

@@ -99,7 +99,14 @@ fn push_sites(
 {
     let irrep = found.irrep_modes();
     for s in 0..found.len() - irrep {
-        push_site(alloc, text, entries, (irrep + s) as u64 + 1, found.site(s))?;
+        push_site(
+            alloc,
+            text,
+            entries,
+            atoms,
+            (irrep + s) as u64 + 1,
+            found.site(s),
+        )?;
     }
     Ok(())
 }

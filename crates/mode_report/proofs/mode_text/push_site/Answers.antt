@@ -11,5 +11,5 @@ pub returns : goal.returns
 returns c =
     let head = line (codes "mode " ++ decimal c.args.number ++ codes " " ++ codes "site") [] in
     on_ok_weaker c.push_unit.result
-    (λ e atoms l. e atoms l ∙ ap (λ t. t ++ moves_by c.args.entries atoms (unit_vector k24_laws c.args.column)) c.in_ok-push_mode_head.ensures
-    ∙ append_assoc c.args.text.now head (moves_by c.args.entries atoms (unit_vector k24_laws c.args.column))) c.push_unit.ensures
+    (λ e. e ∙ ap (λ t. t ++ moves_by c.args.entries c.args.atoms (unit_vector k24_laws c.args.column)) c.in_ok-push_mode_head.ensures
+    ∙ append_assoc c.args.text.now head (moves_by c.args.entries c.args.atoms (unit_vector k24_laws c.args.column))) c.push_unit.ensures

@@ -42,7 +42,7 @@ loop-i-preserved c =
     let n : i < length (told_in irreps orbits all) = subst (λ k. i < k) (sym (told-length irreps orbits all one)) k in
     record {
       end = c.loop-i.invariant.end;
-      text = lines-more (orbit_text_by c.args.entries) _by c.args.entries (told_in irreps orbits all) c.args.text.now c.loop-i.text c.push_orbit.new.text (orbit_text_by c.args.entries (i + 1, d)) i d n c.loop-i.invariant.text c.in_ok-push_orbit.ensures
+      text = lines-more (orbit_text_by c.args.entries) (told_in irreps orbits all) c.args.text.now c.loop-i.text c.push_orbit.new.text (orbit_text_by c.args.entries (i + 1, d)) i d n c.loop-i.invariant.text c.in_ok-push_orbit.ensures
           (ap (λ x. orbit_text_by c.args.entries (i + 1, x)) (told-at irreps orbits all i o m d c.get.ensures k c.index-all-i.is l));
     }
 
