@@ -2,3 +2,4 @@ pub mod ListLemmas
 pub mod PlaceLemmas
 pub mod NamedLemmas
 pub mod GivenLemmas
+pub mod FamilyLemmas

@@ -8,3 +8,9 @@ pub mod GatherParts
 pub mod NamedAtomLaws
 -- the amounts that lines give are one, or there is one line that is refused
 pub mod AmountLaws
+-- what an atom may have besides a displacement
+pub mod ExtraSpace
+-- it is moved by a group
+pub mod ExtraSpaceLaws
+-- amplitudes of extra modes
+pub mod ExtraAmplitudes
