@@ -3,5 +3,4 @@ pub mod HeldLemmas
 pub mod MatchCauseLemmas
 pub mod MatchShiftLemmas
 pub mod OneAmpsLemmas
-pub mod OneModesLemmas
 pub mod TextLemmas

@@ -15,4 +15,4 @@ mod rows;
 
 pub use amps_found::{FoundExtraAmps, extra_amps_found, extra_amps_report};
 pub use found::{FoundExtra, extra_found, extra_report};
-pub use laws::law_of_extra_found;
+pub use laws::{law_of_extra_amps_found, law_of_extra_found};
