@@ -10,18 +10,8 @@ use Rattle.wyckoff.specs.Places.{place_at}
 use Rattle.distort_match.specs.Matches.{Matching, ListedPlace, IsDisplacement, Matches, MatchesAtom}
 use Rattle.distort_match.specs.Outcomes.{IsTaken, MatchesOne, IsAcceptedTo, AreShiftsOf, MatchesTwo, MatchesTaken, IsMatched, IsMatchCause, IsUnmatched, IsAmbiguous, IsOffGrid, IsMissing, shift_at}
 use Rattle.distort_match.specs.declared.errors.MatchError.{MatchError}
+use Rattle.amp_report.specs.OneModesLaws.{AreOrbitsAlike}
 use Rattle.distort_match.specs.declared.errors.MatchError.TheVariants.{Unmatched, Ambiguous, MissingAtom, BadCell, OffGrid, NoMemory}
-
--- the orbit with the same label and places, at the same place
-pub record IsAlikeAt (us : List OrbitView) (n : ℕ) (o : OrbitView) : Type 0 where
-  pub orbit : OrbitView
-  pub at : slice_get us n ≡ Some orbit
-  pub label : o.label ≡ orbit.label
-  pub places : o.places ≡ orbit.places
-
-pub record AreOrbitsAlike (os us : List OrbitView) : Type 0 where
-  pub count : length us ≡ length os
-  pub each : (n : ℕ) (o : OrbitView) → slice_get os n ≡ Some o → IsAlikeAt us n o
 
 module _ (group : SupercellGroup) (listed : List AtomText) (tolerance : ℤ) (cell : Option CellText) where
   abbrev pub matching_with : List OrbitView → Matching

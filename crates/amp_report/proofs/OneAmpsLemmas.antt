@@ -24,36 +24,13 @@ use Rattle.mode_report.specs.Atoms.{RefusesAtoms}
 use Rattle.mode_report.specs.ModesFound.{AreWideAll, AreToldOf}
 use Rattle.amp_report.specs.AmpsFound.{Moded, IsBasisOf, HaveOrbitModes, matching_of, Shifted, RefusesMatching, RefusesMatch, HaveShifts, AreWideAmplitudes, named_amplitudes, IsToldOf, HaveAmplitudes, RefusesNone, IsReported, AfterShifts, AfterModes, AreAmpsFound}
 use Rattle.amp_report.specs.AmpsReport.{OrbitAmplitudes, amps_text}
-use Rattle.amp_report.proofs.AlikeMatchLemmas.{AreOrbitsAlike, cause-alike, shifts-alike}
-use Rattle.amp_report.proofs.ListLemmas.{each-there}
+use Rattle.amp_report.proofs.AlikeMatchLemmas.{cause-alike, shifts-alike}
+use Rattle.amp_report.specs.AmpListLaws.{each-there}
 use Rattle.amp_report.proofs.MatchCauseLemmas.{IsAnswer, causes-one, shifts-or-cause}
 use Rattle.amp_report.proofs.MatchShiftLemmas.{HaveOneDisplacement, HaveOnePlace, shifts-one}
 use Rattle.mode_report.specs.OneWeightLaws.{InduceOne, HaveOneOrbit, HaveOneBasis}
-use Rattle.amp_report.proofs.OneModesLemmas.{orbits-alike, moded-bases, modes-told}
-use Rattle.amp_report.proofs.TextLemmas.{told-count}
-
--- the law of amplitudes
-abbrev pub HaveOneList : Type 0
-HaveOneList =
-    (s : AtomSpace) (ws : List (ℕ → Exact24)) (ms : List (ℕ × (ℕ → Exact24))) (sites : List ℕ) → AreModes k24_laws s ws ms sites → (v a b : ℕ → Exact24)
-    → AreAmplitudes k24_laws (length ms + length sites) (vector_at k24_laws (all_modes k24_laws ms sites)) (size_of s) v a
-    → AreAmplitudes k24_laws (length ms + length sites) (vector_at k24_laws (all_modes k24_laws ms sites)) (size_of s) v b → (m : ℕ) → m < length ms + length sites → a m ≡ b m
-
--- the laws of bases
-abbrev pub HaveBases : Type 0
-HaveBases = (s : AtomSpace) (ws : List (ℕ → Exact24)) (ms : List (ℕ × (ℕ → Exact24))) (sites : List ℕ) → AreModes k24_laws s ws ms sites → IsModeBasis k24_laws (size_of s) ms sites
-
-abbrev pub HaveOneIn : Type 0
-HaveOneIn =
-    (d : ℕ) (ms : List (ℕ × (ℕ → Exact24))) (sites : List ℕ) (v a b : ℕ → Exact24) → IsModeBasis k24_laws d ms sites → AreAmplitudes k24_laws d (vector_at k24_laws (all_modes k24_laws ms sites)) d v a
-    → AreAmplitudes k24_laws d (vector_at k24_laws (all_modes k24_laws ms sites)) d v b → (m : ℕ) → m < d → a m ≡ b m
-
-pub one-list : HaveBases → HaveOneIn → HaveOneList
-one-list bases one s ws ms sites h v a b x y m l =
-    let basis = bases s ws ms sites h in
-    let e : length ms + length sites ≡ size_of s = basis.count in
-    let P : (ℕ → Exact24) → ℕ → Type 0 = λ z n. AreAmplitudes k24_laws n (vector_at k24_laws (all_modes k24_laws ms sites)) (size_of s) v z in
-    one (size_of s) ms sites v a b basis (subst (P a) e x) (subst (P b) e y) m (subst (λ n. m < n) e l)
+use Rattle.amp_report.specs.OneAmplitudesLaws.{HaveOneList, amplitudes-one}
+use Rattle.amp_report.specs.OneModesLaws.{AreOrbitsAlike, orbits-alike, moded-bases, modes-told}
 
 -- ---- refusals of a matching
 
@@ -80,15 +57,6 @@ cause-of m (refusal.Ambiguous n) h = record { error = match_error.Ambiguous n; a
 cause-of m (refusal.MissingAtom label place) h = record { error = match_error.MissingAtom label place; answer = tt; cause = h; told = refl }
 cause-of m _ h = absurd h
 
--- ---- names with amplitudes
-
-named-same : (a b : ℕ → Exact24) (m : ℕ) (xs : List (List ℕ × (ℕ → Exact24))) → ((j : ℕ) → j < m + length xs → a j ≡ b j) → named_amplitudes a m xs ≡ named_amplitudes b m xs
-named-same a b m [] h = refl
-named-same a b m (x ∷ xs) h =
-    let first = h m (omega arith) in
-    let rest = named-same a b (suc m) xs (λ j l. h j (omega (arith, l))) in
-    λ i. (x.0, first i) ∷ rest i
-
 module _ (d : Divided) (q : IsQuotient d.quotient) (small : unwrap_or d.file.tolerance (pos 0) <ℤ pos 3000000) where
   abbrev moded_of : List OrbitView → List (List (ℕ × (ℕ → Exact24)) × List ℕ) → Moded
   moded_of os bs = record { divided = d; orbits = os; bases = bs }
@@ -100,36 +68,11 @@ module _ (d : Divided) (q : IsQuotient d.quotient) (small : unwrap_or d.file.tol
     -- ---- amplitudes
 
     module _ (only : HaveOneList) (ws : List (ℕ → Exact24)) (e : Each (IsBasisOf d.quotient ws) os bs) (x : List (List (List ℤ))) where
-      told-one : (n : ℕ) (t u : OrbitAmplitudes) → IsToldOf (shifted_of os bs x) n t → IsToldOf (shifted_of us bs x) n u → t ≡ u
-      told-one n t u h k =
-          let w = a.each n h.orbit h.is.orbit in
-          let s : w.orbit ≡ k.orbit = same_Some w.orbit k.orbit (sym w.at ∙ k.is.orbit) in
-          let c : h.basis ≡ k.basis = same_Some h.basis k.basis (sym h.is.basis ∙ k.is.basis) in
-          let label : t.label ≡ u.label = h.label_is ∙ w.label ∙ ap (λ (o : OrbitView). o.label) s ∙ sym k.label_is in
-          let places : h.orbit.places ≡ k.orbit.places = w.places ∙ ap (λ (o : OrbitView). o.places) s in
-          let A : List (ℕ × (ℕ → Exact24)) × List ℕ → List (List ℤ) → Type 0 =
-          λ z ps. AreAmplitudes k24_laws (length z.0 + length z.1) (vector_at k24_laws (all_modes k24_laws z.0 z.1)) (length ps * 3) (displacement_of x n) k.amplitudes in
-          let are : A h.basis h.orbit.places = subst (λ z. A z h.orbit.places) (sym c) (subst (A k.basis) (sym places) k.are) in
-          let modes = each-there (IsBasisOf d.quotient ws) os bs n h.orbit h.basis e h.is.orbit h.is.basis in
-          let same = only (displacements d.quotient h.orbit) ws h.basis.0 h.basis.1 modes (displacement_of x n) h.amplitudes k.amplitudes h.are are in
-          let told : List (ℕ × (ℕ → Exact24)) × List ℕ → List (List ℕ × (ℕ → Exact24)) = λ z. told_modes d.file.irreps z.0 z.1 in
-          let count = told-count d.file.irreps h.basis.0 h.basis.1 in
-          let amps : t.amplitudes ≡ u.amplitudes =
-          h.amplitudes_are ∙ named-same h.amplitudes k.amplitudes 0 (told h.basis) (λ j l. same j (omega (arith, l, count))) ∙ ap (λ z. named_amplitudes k.amplitudes 0 (told z)) c ∙ sym k.amplitudes_are in
-          λ i. record { label = label i; amplitudes = amps i }
-
-      amplitudes-one : (all other : List OrbitAmplitudes) → HaveAmplitudes (shifted_of os bs x) all → HaveAmplitudes (shifted_of us bs x) other → all ≡ other
-      amplitudes-one all other h k =
-          let z : OrbitAmplitudes = record { label = []; amplitudes = [] } in
-          let count : length all ≡ length other = h.count ∙ sym a.count ∙ sym k.count in
-          ext_get_or z all other count
-          (λ n l. told-one n (get_or all n z) (get_or other n z) (h.each n (get_or all n z) (slice_get-get_or all n z l)) (k.each n (get_or other n z) (slice_get-get_or other n z (omega (arith, l, count)))))
-
       reports-one : (format : ℕ) → FindsOneFor (AfterShifts format) (shifted_of os bs x) (shifted_of us bs x)
       reports-one format =
           After-single-for RefusesNone AreWideAmplitudes HaveAmplitudes (IsReported format) (shifted_of os bs x) (shifted_of us bs x)
           (record { refusal = λ r s g h. absurd g; first = λ r c g h. absurd g; second = λ r c g h. absurd h })
-          (λ all other h k f g m n u v. m ∙ ap (λ t. report (amps_text format t)) (amplitudes-one all other h k) ∙ sym n)
+          (λ all other h k f g m n u v. m ∙ ap (λ t. report (amps_text format t)) (amplitudes-one displacements 3 (λ s o. refl) d os us bs a only ws e (displacement_of x) all other h k) ∙ sym n)
 
     -- ---- displacements
 
@@ -170,7 +113,7 @@ module _ (d : Divided) (q : IsQuotient d.quotient) (small : unwrap_or d.file.tol
   module _ (single : IsSingleAt RefusesAtoms AreToldOf d) (induce : InduceOne d.quotient) (alike : HaveOneOrbit d.quotient) (basis : HaveOneBasis) (one : HaveOneDisplacement) (once : HaveOnePlace) (only : HaveOneList) where
     moded-one : (format : ℕ) (m e : Moded) → HaveOrbitModes d m → HaveOrbitModes d e → FindsOneFor (AfterModes format) m e
     moded-one format m e h k =
-        let s : m.bases ≡ e.bases = moded-bases d induce alike basis m e h k in
+        let s : m.bases ≡ e.bases = moded-bases displacements d induce alike basis m e h k in
         let x = orbits-alike d.quotient d.file.atoms m.orbits e.orbits h.orbits.orbits k.orbits.orbits in
         let y = orbits-alike d.quotient d.file.atoms e.orbits m.orbits k.orbits.orbits h.orbits.orbits in
         let first : moded_of m.orbits m.bases ≡ m = λ i. record { divided = sym h.divided_is i; orbits = m.orbits; bases = m.bases } in
@@ -182,8 +125,8 @@ module _ (d : Divided) (q : IsQuotient d.quotient) (small : unwrap_or d.file.tol
     atoms-single : IsSingleFor RefusesAtoms HaveOrbitModes d d
     atoms-single = record {
       refusal = single.refusal;
-      first = λ r m f h. let t = modes-told d m h in single.apart r t.0 f t.1;
-      second = λ r m h f. let t = modes-told d m h in single.apart r t.0 f t.1;
+      first = λ r m f h. let t = modes-told displacements d m h in single.apart r t.0 f t.1;
+      second = λ r m h f. let t = modes-told displacements d m h in single.apart r t.0 f t.1;
     }
 
     pub amps-one : FindsOneAt AreAmpsFound d

@@ -15,6 +15,7 @@ use Rattle.mode_project.specs.ModesView.{ModesView, irrep_modes_in}
 use Rattle.mode_report.specs.AllModes.{name_at, told_modes}
 use Rattle.mode_report.specs.ReportLaws.{numbered-take}
 use Rattle.amp_report.specs.AmpsFound.{named_amplitudes}
+use Rattle.amp_report.specs.OneAmplitudesLaws.{told-count}
 use Rattle.amp_report.specs.AmpsReport.{OrbitAmplitudes, zeros_in}
 use Rattle.amp_report.specs.Held.{told_of, told_in, names_of}
 
@@ -60,14 +61,6 @@ amplitude-at v m (x ∷ xs) (suc i) d l =
 rows-length : (rows : List (ℕ × List K24)) → length (exact_rows k24_laws exact24 rows) ≡ length rows
 rows-length [] = refl
 rows-length (r ∷ rows) = ap suc (rows-length rows)
-
--- how many modes there are
-pub told-count : (irreps : List IrrepText) (ms : List (ℕ × (ℕ → Exact24))) (sites : List ℕ) → length (told_modes irreps ms sites) ≡ length ms + length sites
-told-count irreps [] sites =
-    let g : ℕ → List ℕ × (ℕ → Exact24) = λ c. (codes "site", unit_vector k24_laws c) in
-    let z : length sites ≡ 0 + length sites = omega arith in
-    length-map sites g ∙ z
-told-count irreps (m ∷ ms) sites = let e : suc (length ms + length sites) ≡ suc (length ms) + length sites = omega arith in ap suc (told-count irreps ms sites) ∙ e
 
 pub told-modes-length : (irreps : List IrrepText) (m : ModesView) → length (told_modes irreps (irrep_modes_in m) m.sites) ≡ length m.rows + length m.sites
 told-modes-length irreps m = told-count irreps (irrep_modes_in m) m.sites ∙ ap (λ n. n + length m.sites) (rows-length m.rows)

@@ -1,7 +1,10 @@
 -- What `amps` finds in a file behind the steps that all jobs share.
 --
 -- Moded: a file with the orbits of its atoms, and the modes of each
--- HaveOrbitModes d m: these are the orbits and their modes
+-- IsBasisBy space q ws o b, HaveOrbitModesBy space d m: these are the orbits and their modes, where this space is that of their atoms
+-- HaveOrbitModes d m: the same for displacements
+-- AreWideNumbers each family m v k: finding the amplitudes of the numbers v of some orbit is wide, so many numbers an atom
+-- IsToldBy each m v n told, HaveAmplitudesBy each m v all: what is told of the amplitudes of one orbit, and of all
 -- matching_of d orbits: the listed lines of the file, to be matched with the atoms of the orbits
 -- RefusesMatching m r, RefusesMatch m r: the cell or the line that is refused, or the atom that is missing
 -- Shifted, HaveShifts m s: the file with the displacement of each atom
@@ -16,7 +19,7 @@ use Rattle.distort_match.specs.Outcomes.{AreShiftsOf, IsMatchCause}
 use Rattle.distort_match.specs.declared.errors.MatchError.TheVariants as match_error
 use Rattle.mode_project.specs.Amplitudes.{AreAmplitudes, IsWideAmplitudes}
 use Rattle.mode_project.specs.OrbitAmplitudes.{displacement_of}
-use Rattle.mode_project.specs.AtomSpace.{displacements}
+use Rattle.mode_project.specs.AtomSpace.{AtomSpace, displacements}
 use Rattle.mode_project.specs.Modes.{AreModes, all_modes, vector_at}
 use Rattle.report_steps.specs.Contexts.{Divided}
 use Rattle.report_steps.specs.Finding.{Finding, report}
@@ -37,15 +40,21 @@ pub record Moded : Type 0 where
   pub orbits : List OrbitView
   pub bases : List (List (ℕ × (ℕ → Exact24)) × List ℕ)
 
-abbrev pub IsBasisOf : SupercellGroup → List (ℕ → Exact24) → OrbitView → List (ℕ × (ℕ → Exact24)) × List ℕ → Type 0
-IsBasisOf q ws o b = AreModes k24_laws (displacements q o) ws b.0 b.1
+abbrev pub IsBasisBy : (SupercellGroup → OrbitView → AtomSpace) → SupercellGroup → List (ℕ → Exact24) → OrbitView → List (ℕ × (ℕ → Exact24)) × List ℕ → Type 0
+IsBasisBy space q ws o b = AreModes k24_laws (space q o) ws b.0 b.1
 
-pub record HaveOrbitModes (d : Divided) (m : Moded) : Type 0 where
+abbrev pub IsBasisOf : SupercellGroup → List (ℕ → Exact24) → OrbitView → List (ℕ × (ℕ → Exact24)) × List ℕ → Type 0
+IsBasisOf = IsBasisBy displacements
+
+pub record HaveOrbitModesBy (space : SupercellGroup → OrbitView → AtomSpace) (d : Divided) (m : Moded) : Type 0 where
   pub divided_is : m.divided ≡ d
   pub orbits : HaveOrbits d (placed_in d m.orbits)
   pub weights : List (ℕ → Exact24)
   pub weights_are : AreWeightsOf d.quotient d.file.irreps weights
-  pub bases : Each (IsBasisOf d.quotient weights) m.orbits m.bases
+  pub bases : Each (IsBasisBy space d.quotient weights) m.orbits m.bases
+
+abbrev pub HaveOrbitModes : Divided → Moded → Type 0
+HaveOrbitModes = HaveOrbitModesBy displacements
 
 -- the listed lines, to be matched with the atoms of the orbits
 abbrev pub matching_of : Divided → List OrbitView → Matching
@@ -81,10 +90,14 @@ pub record IsOrbitAt (m : Moded) (n : ℕ) (o : OrbitView) (b : List (ℕ × (�
   pub orbit : slice_get m.orbits n ≡ Some o
   pub basis : slice_get m.bases n ≡ Some b
 
+-- the numbers of the atoms of an orbit, by column, have wide amplitudes
+abbrev pub AreWideNumbers : ℕ → ℕ → Moded → (ℕ → ℕ → Exact24) → ℕ → Type 0
+AreWideNumbers each family m v k =
+    (n : ℕ) × ((o : OrbitView) × ((b : List (ℕ × (ℕ → Exact24)) × List ℕ) × IsOrbitAt m n o b
+    × IsWideAmplitudes k24 (length o.places * each) b.0 b.1 (v n) × (k ≡ family)))
+
 abbrev pub AreWideAmplitudes : Shifted → ℕ → Type 0
-AreWideAmplitudes s k =
-    (n : ℕ) × ((o : OrbitView) × ((b : List (ℕ × (ℕ → Exact24)) × List ℕ) × IsOrbitAt s.moded n o b
-    × IsWideAmplitudes k24 (length o.places * 3) b.0 b.1 (displacement_of s.shifts n) × (k ≡ 6)))
+AreWideAmplitudes s = AreWideNumbers 3 6 s.moded (displacement_of s.shifts)
 
 -- each mode's name with its amplitude, from mode m on
 abbrev pub named_amplitudes : (ℕ → Exact24) → ℕ → List (List ℕ × (ℕ → Exact24)) → List (List ℕ × Exact24)
@@ -92,19 +105,25 @@ named_amplitudes a m [] = []
 named_amplitudes a m (x ∷ xs) = (x.0, a m) ∷ named_amplitudes a (suc m) xs
 
 -- what is told of orbit number n
-pub record IsToldOf (s : Shifted) (n : ℕ) (told : OrbitAmplitudes) : Type 0 where
+pub record IsToldBy (each : ℕ) (m : Moded) (v : ℕ → ℕ → Exact24) (n : ℕ) (told : OrbitAmplitudes) : Type 0 where
   pub orbit : OrbitView
   pub basis : List (ℕ × (ℕ → Exact24)) × List ℕ
-  pub is : IsOrbitAt s.moded n orbit basis
+  pub is : IsOrbitAt m n orbit basis
   pub amplitudes : ℕ → Exact24
-  pub are : AreAmplitudes k24_laws (length basis.0 + length basis.1) (vector_at k24_laws (all_modes k24_laws basis.0 basis.1)) (length orbit.places * 3) (displacement_of s.shifts n) amplitudes
+  pub are : AreAmplitudes k24_laws (length basis.0 + length basis.1) (vector_at k24_laws (all_modes k24_laws basis.0 basis.1)) (length orbit.places * each) (v n) amplitudes
   pub label_is : told.label ≡ orbit.label
-  pub amplitudes_are : told.amplitudes ≡ named_amplitudes amplitudes 0 (told_modes s.moded.divided.file.irreps basis.0 basis.1)
+  pub amplitudes_are : told.amplitudes ≡ named_amplitudes amplitudes 0 (told_modes m.divided.file.irreps basis.0 basis.1)
 
 -- what is told of each orbit
-pub record HaveAmplitudes (s : Shifted) (all : List OrbitAmplitudes) : Type 0 where
-  pub count : length all ≡ length s.moded.orbits
-  pub each : (n : ℕ) (told : OrbitAmplitudes) → slice_get all n ≡ Some told → IsToldOf s n told
+pub record HaveAmplitudesBy (numbers : ℕ) (m : Moded) (v : ℕ → ℕ → Exact24) (all : List OrbitAmplitudes) : Type 0 where
+  pub count : length all ≡ length m.orbits
+  pub each : (n : ℕ) (told : OrbitAmplitudes) → slice_get all n ≡ Some told → IsToldBy numbers m v n told
+
+abbrev pub IsToldOf : Shifted → ℕ → OrbitAmplitudes → Type 0
+IsToldOf s = IsToldBy 3 s.moded (displacement_of s.shifts)
+
+abbrev pub HaveAmplitudes : Shifted → List OrbitAmplitudes → Type 0
+HaveAmplitudes s = HaveAmplitudesBy 3 s.moded (displacement_of s.shifts)
 
 abbrev pub RefusesNone : Shifted → Refusal → Type 0
 RefusesNone s r = ⊥

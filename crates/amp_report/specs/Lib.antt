@@ -6,5 +6,13 @@ pub mod AmpsReport
 pub mod AmpsFound
 -- what the program holds of amplitudes
 pub mod Held
+-- lists by their elements
+pub mod AmpListLaws
+-- what the program holds of modes and amplitudes, as the definitions name it
+pub mod AmpsHeldLaws
+-- the orbits of a file and the modes of each are one
+pub mod OneModesLaws
+-- what is told of amplitudes is one
+pub mod OneAmplitudesLaws
 -- what is found for `amps`, by the program's answer
 pub mod FoundAmps

@@ -14,3 +14,4 @@ mod shifts;
 
 pub use found::{FoundAmplitudes, amps_found, amps_report};
 pub use laws::law_of_amps_found;
+pub use report::push_orbits;

@@ -25,8 +25,9 @@ fn head(alloc: Global, format: u8) -> Result<Text, NoMemory>
     Ok(text)
 }
 
-// Adds the lines of all orbits.
-fn push_orbits(
+/// Adds the lines of the amplitudes of all orbits, in the order of the atom lines. Condition: there are
+/// modes for each orbit, with a number for each. Errors: want of memory.
+pub fn push_orbits(
     alloc: Global,
     text: &mut Text,
     irreps: &[IrrepText],

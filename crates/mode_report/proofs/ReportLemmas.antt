@@ -36,10 +36,6 @@ pub irrep-mode : (irreps : List IrrepText) (rows : List (ℕ × List K24)) (m : 
     → row ≡ (get_or rows m (0, [])).1 → slice_get (exact_rows k24_laws exact24 rows) m ≡ Some r → (name, vector k24_laws exact24 row) ≡ named irreps r
 irrep-mode irreps rows m name row r l e h s = (λ j. (e j, vector k24_laws exact24 (h j))) ∙ ap (named irreps) (same_Some _ _ (sym (exact-row rows m l) ∙ s))
 
-pub exact-length : (rows : List (ℕ × List K24)) → length (exact_rows k24_laws exact24 rows) ≡ length rows
-exact-length [] = refl
-exact-length (r ∷ rows) = ap suc (exact-length rows)
-
 -- the next of a list of numbered texts
 pub lines-on : {X : Type 0} (f : ℕ × X → List ℕ) (n : ℕ) (xs : List X) (old now new line : List ℕ) (i k : ℕ) (d : X) → i < length xs → now ≡ old ++ flat_map f (enumerate_from n (take i xs))
     → new ≡ now ++ line → k ≡ n + i → line ≡ f (k, get_or xs i d) → new ≡ old ++ flat_map f (enumerate_from n (take (i + 1) xs))

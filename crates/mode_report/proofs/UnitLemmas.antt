@@ -8,8 +8,8 @@ use Rattle.cyclo24.specs.ExactK24.{k24_laws}
 use Rattle.cyclo24.specs.TextK24.{text24}
 use Rattle.iso_text.specs.Lines.{line}
 use Rattle.lin_alg.specs.Equations.{unit_vector}
-use Rattle.mode_report.specs.ModesReport.{move_lines}
-use Rattle.mode_report.specs.MoveParts.{are_nought, unit_text, unit_line}
+use Rattle.mode_report.specs.ModesReport.{move_lines, number_lines}
+use Rattle.mode_report.specs.MoveParts.{are_nought, unit_text, unit_line, entry_line}
 use Rattle.mode_report.proofs.TextLemmas.{only-one}
 
 -- two tests of equal outcome
@@ -86,3 +86,27 @@ module _ {K : Type 0} (f : FieldOn K) where
 pub unit-moves : (p atoms : ℕ) → p < atoms * 3 → unit_line (p / 3 + 1) (p % 3) ≡ move_lines atoms (unit_vector k24_laws p)
 unfolding unit_text
 unit-moves p atoms l = unit-lines k24_laws text24 p atoms l
+
+-- one number an atom
+
+module _ {K : Type 0} (f : FieldOn K) (t : K → List ℕ) where
+  abbrev entry : ℕ → K → List ℕ
+  entry number x = line (codes "move " ++ decimal number ++ codes " " ++ t x) []
+
+  abbrev entries : ℕ → K → List ℕ
+  entries number x = cond (f.is_nought x) [] (entry number x)
+
+  own-entry : (p : ℕ) → entries (p + 1) (unit_vector f p p) ≡ entry (p + 1) f.unit
+  own-entry p =
+      ap (λ b. entries (p + 1) (cond b f.unit f.nought)) (eq-eqb p p refl) ∙ ap (λ s. cond s [] (entry (p + 1) f.unit)) f.is_nought-unit
+
+  other-entry : (p i : ℕ) → (i ≡ p → ⊥) → entries (i + 1) (unit_vector f p i) ≡ []
+  other-entry p i n =
+      ap (λ b. entries (i + 1) (cond b f.unit f.nought)) (ne_eqb i p n) ∙ ap (λ s. cond s [] (entry (i + 1) f.nought)) f.is_nought-nought
+
+  unit-entries : (p atoms : ℕ) → p < atoms * 1 → entry (p + 1) f.unit ≡ flat_map (λ i. entries (i + 1) (unit_vector f p i)) (range_with_len 0 atoms)
+  unit-entries p atoms l = sym (own-entry p) ∙ sym (only-one (λ i. entries (i + 1) (unit_vector f p i)) atoms p (omega (arith, l)) (λ i k n. other-entry p i n))
+
+-- the one line is that of all atoms
+pub unit-numbers : (p atoms : ℕ) → p < atoms * 1 → entry_line (p + 1) k24_laws.unit ≡ number_lines atoms (unit_vector k24_laws p)
+unit-numbers p atoms l = unit-entries k24_laws text24 p atoms l

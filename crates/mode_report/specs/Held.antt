@@ -2,9 +2,10 @@
 --
 -- placed_in d orbits: a file with these orbits; AreOrbitsHeld d orbits: they are those of its atoms
 -- RefusesNothing a r: nothing is refused
--- IsWideOrbit q ws o k, AreModesOfOrbit q ws o m: the modes of an orbit by the weights
--- IsWideSomeOrbit q ws orbits k: of some orbit
--- HasSizeOf o m: the modes have three numbers for each atom
+-- IsWideOrbitBy space family q ws o k, AreModesBy space q ws o m: the modes of an orbit by the weights, where this space is that of its atoms
+-- IsWideSomeBy space family q ws orbits k: of some orbit
+-- IsWideOrbit, AreModesOfOrbit, IsWideSomeOrbit: the same for displacements
+-- HasSizeBy each o m, HasSizeOf o m: the modes have so many numbers for each atom; three
 -- told_of irreps o m: what is told of an orbit with these modes; told_in irreps orbits all: of all orbits
 use Rattle.std.specs.Prelude.{◌≡◌, ℕ, List, [], ◌∷◌, ◌*◌, Contains, length}
 use Rattle.std.specs.List.{All}
@@ -12,7 +13,7 @@ use Rattle.cyclo24.specs.ExactK24.{Exact24, k24, k24_laws}
 use Rattle.iso_text.specs.declared.sections.IrrepText.{IrrepText}
 use Rattle.super_group.specs.Quotient.{SupercellGroup}
 use Rattle.wyckoff.specs.Orbit.{OrbitView}
-use Rattle.mode_project.specs.AtomSpace.{displacements, size_of, IsOrbit}
+use Rattle.mode_project.specs.AtomSpace.{AtomSpace, displacements, size_of, IsOrbit}
 use Rattle.mode_project.specs.Modes.{AreModes}
 use Rattle.mode_project.specs.ModesView.{ModesView, irrep_modes_in}
 use Rattle.mode_project.specs.Wide.{IsWideModes}
@@ -31,19 +32,32 @@ AreOrbitsHeld d orbits = HaveOrbits d (placed_in d orbits) × All (IsOrbit d.quo
 abbrev pub RefusesNothing : {A : Type 0} → A → Refusal → Type 0
 RefusesNothing a r = ⊥
 
-abbrev pub IsWideOrbit : SupercellGroup → List (ℕ → Exact24) → OrbitView → ℕ → Type 0
-IsWideOrbit q ws o k = IsWideModes k24 (displacements q o) ws × (k ≡ 5)
+abbrev pub IsWideOrbitBy : (SupercellGroup → OrbitView → AtomSpace) → ℕ → SupercellGroup → List (ℕ → Exact24) → OrbitView → ℕ → Type 0
+IsWideOrbitBy space family q ws o k = IsWideModes k24 (space q o) ws × (k ≡ family)
 
-pub record AreModesOfOrbit (q : SupercellGroup) (ws : List (ℕ → Exact24)) (o : OrbitView) (m : ModesView) : Type 0 where
-  pub modes : AreModes k24_laws (displacements q o) ws (irrep_modes_in m) m.sites
-  pub size : m.size ≡ size_of (displacements q o)
+abbrev pub IsWideOrbit : SupercellGroup → List (ℕ → Exact24) → OrbitView → ℕ → Type 0
+IsWideOrbit = IsWideOrbitBy displacements 5
+
+pub record AreModesBy (space : SupercellGroup → OrbitView → AtomSpace) (q : SupercellGroup) (ws : List (ℕ → Exact24)) (o : OrbitView) (m : ModesView) : Type 0 where
+  pub modes : AreModes k24_laws (space q o) ws (irrep_modes_in m) m.sites
+  pub size : m.size ≡ size_of (space q o)
+
+abbrev pub AreModesOfOrbit : SupercellGroup → List (ℕ → Exact24) → OrbitView → ModesView → Type 0
+AreModesOfOrbit = AreModesBy displacements
+
+abbrev pub IsWideSomeBy : (SupercellGroup → OrbitView → AtomSpace) → ℕ → SupercellGroup → List (ℕ → Exact24) → List OrbitView → ℕ → Type 0
+IsWideSomeBy space family q ws orbits k = (o : OrbitView) × Contains orbits o × IsWideOrbitBy space family q ws o k
 
 abbrev pub IsWideSomeOrbit : SupercellGroup → List (ℕ → Exact24) → List OrbitView → ℕ → Type 0
-IsWideSomeOrbit q ws orbits k = (o : OrbitView) × Contains orbits o × IsWideOrbit q ws o k
+IsWideSomeOrbit = IsWideSomeBy displacements 5
+
+-- so many numbers for each atom
+abbrev pub HasSizeBy : ℕ → OrbitView → ModesView → Type 0
+HasSizeBy each o m = m.size ≡ length o.places * each
 
 -- three numbers for each atom
 abbrev pub HasSizeOf : OrbitView → ModesView → Type 0
-HasSizeOf o m = m.size ≡ length o.places * 3
+HasSizeOf = HasSizeBy 3
 
 abbrev pub told_of : List IrrepText → OrbitView → ModesView → OrbitModes
 told_of irreps o m = record {

@@ -18,6 +18,8 @@ pub mod AllModes
 pub mod Held
 -- what `modes` finds in a file
 pub mod ModesFound
+-- what the program holds of weights and modes, as the definitions name it
+pub mod ModesHeldLaws
 -- the modes that a direction allows
 pub mod DirectionModes
 -- what is found for a direction

@@ -4,6 +4,7 @@
 -- step_line number x y z: the line of the atom with this number; step_lines: nothing where it stays
 -- unit_text axis place: an entry of a unit vector
 -- unit_line number axis: the line of an atom that moves by 1 along an axis
+-- entry_line number x: the line of the atom with this number, whose own is x; entry_lines: nothing where it is 0
 use Rattle.std.specs.Prelude.{ℕ, ◌++◌, Bool, ◌&&◌, if◌then◌else◌, List, [], codes, decimal}
 use Rattle.cyclo24.specs.FieldOn.{FieldOn}
 use Rattle.cyclo24.specs.ExactK24.{Exact24, k24_laws}
@@ -30,3 +31,11 @@ unit_text axis place = text24 (unit_vector k24_laws axis place)
 -- the line of an atom that moves by 1 along an axis
 abbrev pub unit_line : ℕ → ℕ → List ℕ
 unit_line number axis = line (codes "move " ++ decimal number ++ codes " " ++ unit_text axis 0 ++ codes " " ++ unit_text axis 1 ++ codes " " ++ unit_text axis 2) []
+
+-- the line of an atom with one number
+abbrev pub entry_line : ℕ → Exact24 → List ℕ
+entry_line number x = line (codes "move " ++ decimal number ++ codes " " ++ text24 x) []
+
+-- nothing for an atom whose number is 0
+abbrev pub entry_lines : ℕ → Exact24 → List ℕ
+entry_lines number x = if k24_laws.is_nought x then [] else entry_line number x

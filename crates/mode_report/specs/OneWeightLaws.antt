@@ -1,7 +1,7 @@
 -- The weights of the irreps of a file are one; and what is known of orbits and modes, as the layers above use it.
 --
 -- InduceOne q: the law of the irreps of a file
--- HaveOneOrbit q: the law of the orbits of an atom
+-- HaveOneSpace space q, HaveOneOrbit q: the law of the orbits of an atom, where this space is that of its atoms; for displacements
 -- HaveOneBasis: the law of modes
 -- weights-one: the weights of the irreps are one
 use Rattle.std.proofs.Common.{◌≡◌, sym, ap, ◌∙◌, ◌⊎◌, inl, inr, ℕ, ◌<◌, ◌≤◌, List, arith}
@@ -30,8 +30,11 @@ abbrev pub InduceOne : SupercellGroup → Type 0
 InduceOne q = (i : IrrepText) (s t : WaveStar) (g m : Matrices) → IsRepresented q.parent i s g → IsRepresented q.parent i t m → InduceTheSame q i s t g m
 
 -- the law of the orbits of an atom
+abbrev pub HaveOneSpace : (SupercellGroup → OrbitView → AtomSpace) → SupercellGroup → Type 0
+HaveOneSpace space q = (atom : AtomText) (o u : OrbitView) → IsOrbitOf q atom o → IsOrbitOf q atom u → AreAlike (space q o) (space q u)
+
 abbrev pub HaveOneOrbit : SupercellGroup → Type 0
-HaveOneOrbit q = (atom : AtomText) (o u : OrbitView) → IsOrbitOf q atom o → IsOrbitOf q atom u → AreAlike (displacements q o) (displacements q u)
+HaveOneOrbit = HaveOneSpace displacements
 
 -- the law of modes
 abbrev pub HaveOneBasis : Type 0

@@ -9,6 +9,7 @@ ghost use Rattle.mode_report.specs.NamedRows.{IsNamedRow};
 
 use crate::head::{direction_head, modes_head};
 use crate::mode_text::push_mode;
+use crate::moves::AtomEntries;
 use crate::named_rows::{NamedRow, named_rows};
 use crate::orbit_text::{count_text, push_orbit_front};
 use cyclo24::K24;
@@ -30,7 +31,15 @@ fn push_named(
     for m in 0..modes.len() {
         let mode = &modes[m];
         let name = mode.name.as_slice();
-        push_mode(alloc, text, atoms, m as u64 + 1, name, &mode.row)?;
+        push_mode(
+            alloc,
+            text,
+            AtomEntries::Three,
+            atoms,
+            m as u64 + 1,
+            name,
+            &mode.row,
+        )?;
     }
     Ok(())
 }

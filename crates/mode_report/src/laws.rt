@@ -1,11 +1,14 @@
 // Laws over the definitions, as contracts of functions that do nothing.
 ghost use Rattle.std.specs.Prelude.{ℕ, List, Option};
-ghost use Rattle.super_group.specs.Quotient.{IsQuotient};
+ghost use Rattle.super_group.specs.Quotient.{SupercellGroup, IsQuotient};
+ghost use Rattle.wyckoff.specs.Orbit.{OrbitView};
+ghost use Rattle.mode_project.specs.AtomSpace.{AtomSpace};
 ghost use Rattle.report_steps.specs.Contexts.{Divided};
 ghost use Rattle.report_steps.specs.StepLaws.{IsSingleAt, FindsOneAt};
 ghost use Rattle.mode_report.specs.Atoms.{RefusesAtoms};
 ghost use Rattle.mode_report.specs.DirectionFound.{IsFoundAlong};
-ghost use Rattle.mode_report.specs.ModesFound.{AreToldOf};
+ghost use Rattle.mode_report.specs.ModesFound.{AreToldOf, AreToldBy};
+ghost use Rattle.mode_report.specs.OneWeightLaws.{HaveOneSpace};
 
 use cyclo24::K24;
 use list_report::law_of_listing_steps;
@@ -19,6 +22,15 @@ pub fn law_of_modes_found()
 {
     law_of_one_basis::<K24>();
     law_of_one_orbit();
+    law_of_irreps();
+}
+
+/// What is told of the orbits of a file and of their modes is one, where all orbits of one atom have
+/// alike spaces.
+pub fn law_of_modes_in_spaces()
+    ensures { (space : SupercellGroup → OrbitView → AtomSpace) (d : Divided) → IsQuotient d.quotient → HaveOneSpace space d.quotient → IsSingleAt RefusesAtoms (AreToldBy space) d }
+{
+    law_of_one_basis::<K24>();
     law_of_irreps();
 }
 

@@ -6,7 +6,10 @@ use Rattle.mode_report.specs.Held.{RefusesNothing}
 use Rattle.amp_report.specs.AmpsFound.{RefusesNone, AreWideAmplitudes, HaveAmplitudes, IsReported}
 use Rattle.amp_report.specs.FoundAmps.{AreAmpsHeld, amps_of}
 use Rattle.amp_report.specs.Held.{AreSolvable, AreRowsOf, IsWideSomeRow, shifted_in, told_in}
-use Rattle.amp_report.proofs.HeldLemmas.{modes-solvable, rows-wide, rows-told, rows-held}
+use Rattle.amp_report.proofs.HeldLemmas.{modes-solvable, rows-wide}
+use Rattle.amp_report.specs.AmpsHeldLaws.{rows-told, rows-held}
+use Rattle.mode_project.specs.AtomSpace.{displacements}
+use Rattle.mode_project.specs.OrbitAmplitudes.{displacement_of}
 use Rattle.amp_report.proofs.found.after_shifts.Goals as goal
 
 pub rows_of-requires : goal.rows_of-requires
@@ -22,7 +25,7 @@ returns-in-Passed c =
     let rows = c.in-Passed.rows.items in
     let P : List ModesView → Type 0 = λ us. AreRowsOf us shifts (length us) rows in
     let h = subst P c.deref.ensures.value (rw c.in-Passed.is at c.in_ok-rows.ensures) in
-    (inr (inr (told_in d.file.irreps c.args.orbits all rows, rows-told d c.args.orbits all c.requires.modes shifts rows h, refl)), rows-held d c.args.orbits all c.requires.modes shifts rows h)
+    (inr (inr (told_in d.file.irreps c.args.orbits all rows, rows-told displacements 3 d c.args.orbits all c.requires.modes (displacement_of shifts) rows h, refl)), rows-held displacements 3 d c.args.orbits all c.requires.modes (displacement_of shifts) rows h)
 
 pub returns-in-Refused : goal.returns-in-Refused
 returns-in-Refused c =

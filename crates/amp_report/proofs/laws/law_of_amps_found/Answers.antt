@@ -1,4 +1,5 @@
-use Rattle.amp_report.proofs.OneAmpsLemmas.{amps-one, one-list}
+use Rattle.amp_report.specs.OneAmplitudesLaws.{one-list}
+use Rattle.amp_report.proofs.OneAmpsLemmas.{amps-one}
 use Rattle.amp_report.proofs.laws.law_of_amps_found.Goals as goal
 
 pub returns : goal.returns

@@ -1,12 +1,12 @@
 use Rattle.std.proofs.Common.{◌+◌, ◌<◌, ◌≤◌, List, length, take, sym, subst, arith}
 use Rattle.std.proofs.lemmas.Option.{get_or_from_slice_get}
-use Rattle.mode_project.specs.AtomSpace.{IsOrbit}
+use Rattle.mode_project.specs.AtomSpace.{IsOrbit, displacements}
 use Rattle.mode_project.specs.ModesView.{ModesView}
 use Rattle.mode_project.specs.Weights.{exact_weights}
 use Rattle.report_steps.specs.IrrepSteps.{Each}
 use Rattle.mode_report.specs.Held.{AreModesOfOrbit}
 use Rattle.mode_report.proofs.EachLemmas.{each-more, each-whole}
-use Rattle.mode_report.proofs.FoundLemmas.{wide-some}
+use Rattle.mode_report.specs.ModesHeldLaws.{wide-some}
 use Rattle.mode_report.proofs.orbit_modes.all_modes.Goals as goal
 
 pub orbit_modes-requires-clause-orbit : goal.orbit_modes-requires-clause-orbit
@@ -34,7 +34,7 @@ loop-i-preserved c =
 
 pub returns-in-Refused : goal.returns-in-Refused
 returns-in-Refused c =
-    wide-some c.args.quotient.now (exact_weights c.args.weights.now) c.args.orbits.now c.loop-i.i c.get.result.now c.in-Refused.refusal c.get.ensures (rw c.in-Refused.is at c.in_ok-found.ensures)
+    wide-some displacements 5 3 c.args.quotient.now (exact_weights c.args.weights.now) c.args.orbits.now c.loop-i.i c.get.result.now c.in-Refused.refusal c.get.ensures (rw c.in-Refused.is at c.in_ok-found.ensures)
 
 pub returns : goal.returns
 returns c =

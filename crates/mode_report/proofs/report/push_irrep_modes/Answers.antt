@@ -6,8 +6,9 @@ use Rattle.cyclo24.specs.K24.{exact24}
 use Rattle.lin_alg.specs.Rows.{vector}
 use Rattle.mode_project.specs.ModesView.{irrep_modes_in}
 use Rattle.mode_report.specs.AllModes.{named}
-use Rattle.mode_report.specs.ModesReport.{mode_text}
-use Rattle.mode_report.proofs.ReportLemmas.{exact-row, exact-length, mapped-at}
+use Rattle.mode_report.specs.ModesReport.{mode_text_by}
+use Rattle.mode_report.proofs.ReportLemmas.{exact-row, mapped-at}
+use Rattle.mode_report.specs.ModesHeldLaws.{exact-length}
 use Rattle.mode_report.proofs.TextLemmas.{lines-more}
 use Rattle.mode_report.proofs.report.push_irrep_modes.Goals as goal
 
@@ -17,7 +18,7 @@ loop-m-preserved c =
     let rows = c.args.found.now.rows in
     let ms = irrep_modes_in c.args.found.now in
     let i = c.loop-m.m in
-    let f = mode_text c.args.atoms in
+    let f = mode_text_by c.args.entries c.args.atoms in
     let inside : i < length rows = omega (arith, c.loop-m.invariant.end) in
     let n : i < length ms = subst (λ k. i < k) (sym (exact-length rows)) inside in
     let l : i < length (map (named irreps) ms) = subst (λ k. i < k) (sym (length-map ms (named irreps))) n in
@@ -37,4 +38,4 @@ returns c =
     let ms = irrep_modes_in c.args.found.now in
     let count : length (map (named irreps) ms) ≡ length rows = length-map ms (named irreps) ∙ exact-length rows in
     let whole : length (map (named irreps) ms) ≤ c.loop-m.m = omega (arith, c.loop-m.invariant.end, count) in
-    c.loop-m.invariant.text ∙ ap (λ xs. c.args.text.now ++ flat_map (mode_text c.args.atoms) (enumerate_from 1 xs)) (take_all c.loop-m.m (map (named irreps) ms) whole)
+    c.loop-m.invariant.text ∙ ap (λ xs. c.args.text.now ++ flat_map (mode_text_by c.args.entries c.args.atoms) (enumerate_from 1 xs)) (take_all c.loop-m.m (map (named irreps) ms) whole)

@@ -6,9 +6,10 @@ use Rattle.std.proofs.lemmas.Result.{on_ok_weaker}
 use Rattle.iso_text.specs.Lines.{line}
 use Rattle.mode_project.specs.ModesView.{irrep_modes_in}
 use Rattle.mode_report.specs.AllModes.{named, told_sites}
-use Rattle.mode_report.specs.ModesReport.{mode_text, place_lines}
+use Rattle.mode_report.specs.ModesReport.{mode_text_by, place_lines}
 use Rattle.mode_report.specs.Told.{counts_text}
-use Rattle.mode_report.proofs.ReportLemmas.{orbit-joined, exact-length}
+use Rattle.mode_report.proofs.ReportLemmas.{orbit-joined}
+use Rattle.mode_report.specs.ModesHeldLaws.{exact-length}
 use Rattle.mode_report.proofs.report.push_orbit.Goals as goal
 
 pub returns : goal.returns
@@ -28,11 +29,11 @@ returns c =
     let site : c.len.result - c.irrep_modes-irrep.result ≡ length m.sites = omega (arith, c.len.ensures, c.irrep_modes-irrep.ensures) in
     let counts = c.in_ok-counts.ensures ∙ (λ j. counts_text (c.irrep_modes-irrep.ensures j) (site j)) in
     let a : one ≡ old ++ (front ++ places) = c.in_ok-push_orbit_front.ensures ∙ ap (λ t. old ++ (head t ++ places)) counts in
-    let b : two ≡ one ++ flat_map (mode_text (length o.places)) (enumerate_from 1 xs) =
-    c.in_ok-push_irrep_modes.ensures ∙ ap (λ k. one ++ flat_map (mode_text k) (enumerate_from 1 xs)) c.atoms.ensures.value in
+    let b : two ≡ one ++ flat_map (mode_text_by c.args.entries (length o.places)) (enumerate_from 1 xs) =
+    c.in_ok-push_irrep_modes.ensures ∙ ap (λ k. one ++ flat_map (mode_text_by c.args.entries k) (enumerate_from 1 xs)) c.atoms.ensures.value in
     let count : length xs ≡ length m.rows = length-map ms (named c.args.irreps.now) ∙ exact-length m.rows in
     let e : n ≡ 1 + length xs = omega (arith, count) in
     on_ok_weaker c.push_sites.result
-    (λ s. orbit-joined (mode_text (length o.places)) n xs ys old (front ++ places) one two c.push_sites.new.text a b e
-    (s ∙ ap (λ k. two ++ flat_map (mode_text k) (enumerate_from n ys)) c.atoms-2.ensures.value))
+    (λ s. orbit-joined (mode_text_by c.args.entries (length o.places)) n xs ys old (front ++ places) one two c.push_sites.new.text a b e
+    (s ∙ ap (λ k. two ++ flat_map (mode_text_by c.args.entries k) (enumerate_from n ys)) c.atoms-2.ensures.value))
     c.push_sites.ensures

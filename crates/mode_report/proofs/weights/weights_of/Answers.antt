@@ -8,7 +8,7 @@ use Rattle.mode_project.specs.Weights.{AreWeights, exact_weights, weights_in}
 use Rattle.report_steps.specs.Held.{IsInducedHeld}
 use Rattle.mode_report.specs.IrrepWeights.{AreWeightsOf}
 use Rattle.mode_report.proofs.EachLemmas.{each-second}
-use Rattle.mode_report.proofs.FoundLemmas.{weights-are}
+use Rattle.mode_report.specs.ModesHeldLaws.{weights-are}
 use Rattle.mode_report.proofs.weights.weights_of.Goals as goal
 
 pub returns-clause-lists : goal.returns-clause-lists

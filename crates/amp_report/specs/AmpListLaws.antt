@@ -1,4 +1,9 @@
 -- Lists by their elements.
+--
+-- there: an element at each place
+-- last-or-before: an element of a list with one more at the end
+-- each-there: the items at one place are related
+-- each-by: lists of one length, by their items
 use Rattle.std.proofs.Common.{◌≡◌, refl, sym, ap, subst, inl, inr, ◌⊎◌, ℕ, zero, suc, ◌<◌, List, [], ◌∷◌, ◌++◌, length, arith, Some, slice_get}
 use Rattle.std.proofs.lemmas.Option.{same_Some, none-some}
 use Rattle.report_steps.specs.IrrepSteps.{Each}

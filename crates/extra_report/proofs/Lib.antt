@@ -1,0 +1,4 @@
+pub mod EachLemmas
+pub mod SpaceLemmas
+pub mod AmpsLemmas
+pub mod OneAmpsLemmas

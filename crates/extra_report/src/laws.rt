@@ -1,0 +1,33 @@
+// What is found settled, as contracts of functions that do nothing.
+ghost use Rattle.super_group.specs.Quotient.{IsQuotient};
+ghost use Rattle.report_steps.specs.Contexts.{Divided};
+ghost use Rattle.report_steps.specs.StepLaws.{FindsOneAt};
+ghost use Rattle.extra_modes.specs.declared.nature.Nature.{Nature};
+ghost use Rattle.extra_report.specs.ExtraFound.{AreExtraFound};
+ghost use Rattle.extra_report.specs.ExtraAmpsFound.{AreExtraAmpsFound};
+
+use cyclo24::K24;
+use extra_modes::{law_of_amounts, law_of_extra_spaces};
+use mode_project::{law_of_amplitudes, law_of_one_basis};
+use mode_report::law_of_modes_in_spaces;
+use report_steps::law_of_irreps;
+
+/// What `occ` and `axial` find in a file is one, besides numbers that pass their bound.
+pub fn law_of_extra_found()
+    ensures { (nature : Nature) (d : Divided) → IsQuotient d.quotient → FindsOneAt (AreExtraFound nature) d }
+{
+    law_of_extra_spaces();
+    law_of_modes_in_spaces();
+}
+
+/// What `occ-amps` and `axial-amps` find in a file is one, besides numbers that pass their bound.
+pub fn law_of_extra_amps_found()
+    ensures { (nature : Nature) (d : Divided) → IsQuotient d.quotient → FindsOneAt (AreExtraAmpsFound nature) d }
+{
+    law_of_extra_spaces();
+    law_of_modes_in_spaces();
+    law_of_amounts();
+    law_of_amplitudes::<K24>();
+    law_of_one_basis::<K24>();
+    law_of_irreps();
+}
