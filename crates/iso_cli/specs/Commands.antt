@@ -2,13 +2,14 @@
 --
 -- commands: a row for each command
 -- job_by given: the job, where what was given is as the tables say
-use Rattle.std.specs.Prelude.{ℕ, Bool, List, [], ◌∷◌, Option, Some, None, is_some, nat_lt, codes, find, if◌then◌else◌, option_and_then, unwrap_or}
+use Rattle.std.specs.Prelude.{ℕ, Bool, true, false, List, [], ◌∷◌, Option, Some, None, is_some, nat_lt, codes, find, if◌then◌else◌, option_and_then, unwrap_or}
 use Rattle.std.specs.List.{list_all}
 use Rattle.std.specs.Option.{option_map}
 use Rattle.std.specs.Str.{bytes_eq}
 use Rattle.iso_text.specs.Digits.{decimal}
 use Rattle.iso_cli.specs.Options.{Text, options, suits}
 use Rattle.iso_cli.specs.Given.{command}
+use Rattle.extra_modes.specs.declared.nature.Nature.TheVariants as nature
 use Rattle.iso_report.specs.declared.job.Job.{Job}
 use Rattle.iso_report.specs.declared.job.Job.TheVariants as job
 
@@ -47,6 +48,10 @@ commands =
     ∷ row (codes "demo") (λ given. option_and_then demo_job (number_of given (codes "number")))
     ∷ row (codes "couple") (λ given. option_map (λ other. job.Couple (given (codes "irrep")) other (unwrap_or (number_of given (codes "after")) 0) (number_of given (codes "count"))) (given (codes "with")))
     ∷ row (codes "link") (λ given. option_map (job.Link (given (codes "irrep"))) (given (codes "with")))
+    ∷ row (codes "occ") (λ given. Some (job.Extra nature.Occupation false))
+    ∷ row (codes "axial") (λ given. Some (job.Extra nature.Axial false))
+    ∷ row (codes "occ-amps") (λ given. Some (job.Extra nature.Occupation true))
+    ∷ row (codes "axial-amps") (λ given. Some (job.Extra nature.Axial true))
     ∷ row (codes "apart") (λ given. Some job.Apart)
     ∷ []
 

@@ -13,6 +13,7 @@ use crate::command_line::find_matches;
 use crate::values::{Values, read_values, text};
 use clap::error::ErrorKind;
 use clap::{ArgMatches, Error};
+use extra_modes::Nature;
 use iso_report::Job;
 use iso_text::{Name, NoMemory};
 use std::alloc::Global;
@@ -46,6 +47,14 @@ fn demo_job(number: u64) -> Option<Job>
     } else {
         None
     }
+}
+
+// The job of occupations or axial vectors.
+fn extra_job(nature: Nature, amps: bool) -> Job
+    ensures job { result ≡ Job.Extra nature amps }
+    ensures number { HasNumber result }
+{
+    Job::Extra { nature, amps }
 }
 
 // The job of a command with what its options give.
@@ -84,6 +93,10 @@ fn job_named(command: &str, values: Values) -> Option<Job>
             irrep,
             other: other?,
         }),
+        "occ" => Some(extra_job(Nature::Occupation, false)),
+        "axial" => Some(extra_job(Nature::Axial, false)),
+        "occ-amps" => Some(extra_job(Nature::Occupation, true)),
+        "axial-amps" => Some(extra_job(Nature::Axial, true)),
         "apart" => Some(Job::Apart),
         _ => None,
     }

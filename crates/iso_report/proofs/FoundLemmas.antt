@@ -1,6 +1,7 @@
 -- What is found behind the steps that all jobs share, by the job.
 use Rattle.std.proofs.Common.{◌≡◌, refl, sym, subst, map, ℕ, Bool, true, false, List, Option, Result}
 use Rattle.std.proofs.lemmas.Bool.{true≢false}
+use Rattle.extra_modes.specs.declared.nature.Nature.{Nature}
 use Rattle.report_steps.specs.declared.context.InducedFile.{InducedFile}
 use Rattle.iso_report.specs.declared.job.Job.{Job}
 use Rattle.iso_report.specs.declared.job.Job.TheVariants as job
@@ -43,3 +44,7 @@ module _ {A : Type 0} (j : Job) (d : Divided) (out : Change) (r : Result A RunEr
 -- the modes of all orbits, or those that a direction allows
 pub modes-ends : {A : Type 0} (direction other : Option (Option (List ℕ) × ℕ)) (d : Divided) (out : Change) (r : Result A RunError) → direction ≡ other → Ends (IsFound (job.Modes other) d) out r → Ends (IsFound (job.Modes direction) d) out r
 modes-ends direction other d out r e h = subst (λ (x : Option (Option (List ℕ) × ℕ)). Ends (IsFound (job.Modes x) d) out r) (sym e) h
+
+-- occupations or axial vectors, their modes or their amplitudes
+pub extra-ends : {A : Type 0} (nature : Nature) (amps other : Bool) (d : Divided) (out : Change) (r : Result A RunError) → amps ≡ other → Ends (IsFound (job.Extra nature other) d) out r → Ends (IsFound (job.Extra nature amps) d) out r
+extra-ends nature amps other d out r e h = subst (λ (x : Bool). Ends (IsFound (job.Extra nature x) d) out r) (sym e) h

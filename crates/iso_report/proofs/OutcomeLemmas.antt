@@ -23,6 +23,9 @@ use Rattle.mode_report.specs.DirectionFound.{IsFoundAlong}
 use Rattle.amp_report.specs.AmpsFound.{AreAmpsFound}
 use Rattle.couple_report.specs.CoupleFound.{IsCoupleFound}
 use Rattle.couple_report.specs.LinkFound.{IsLinkFound}
+use Rattle.extra_modes.specs.declared.nature.Nature.{Nature}
+use Rattle.extra_report.specs.ExtraFound.{AreExtraFound}
+use Rattle.extra_report.specs.ExtraAmpsFound.{AreExtraAmpsFound}
 use Rattle.apart_report.specs.ApartFound.{AreApartFound}
 use Rattle.demo_files.specs.Demo.{IsDemoFile}
 use Rattle.demo_report.specs.DemoFound.{IsDemoFound}
@@ -55,6 +58,8 @@ pub record AreSettled : Type 0 where
   pub amps : (d : Divided) → IsQuotient d.quotient → HasSmallTolerance d.file → FindsOneAt AreAmpsFound d
   pub couple : (d : Divided) → IsQuotient d.quotient → (wanted : Option (List ℕ)) (other : List ℕ) (after : ℕ) (count : Option ℕ) → FindsOneAt (IsCoupleFound wanted other after count) d
   pub link : (d : Divided) → IsQuotient d.quotient → (wanted : Option (List ℕ)) (other : List ℕ) → FindsOneAt (IsLinkFound wanted other) d
+  pub extra : (nature : Nature) (d : Divided) → IsQuotient d.quotient → FindsOneAt (AreExtraFound nature) d
+  pub extra_amps : (nature : Nature) (d : Divided) → IsQuotient d.quotient → FindsOneAt (AreExtraAmpsFound nature) d
   pub apart : (d : Divided) → IsQuotient d.quotient → FindsOneAt AreApartFound d
   pub demo : (d : Divided) → IsQuotient d.quotient → (number : ℕ) → FindsOneAt (IsDemoFound number) d
   pub file : (number : ℕ) (s t : List ℕ) → IsDemoFile number s → IsDemoFile number t → s ≡ t
@@ -76,6 +81,8 @@ module _ (s : AreSettled) (j : Job) where
     job-found job.Amps f g a b u v = s.amps d h small f g a b u v
     job-found (job.Couple wanted other after count) f g a b u v = s.couple d h wanted other after count f g a b u v
     job-found (job.Link wanted other) f g a b u v = s.link d h wanted other f g a b u v
+    job-found (job.Extra nature false) f g a b u v = s.extra nature d h f g a b u v
+    job-found (job.Extra nature true) f g a b u v = s.extra_amps nature d h f g a b u v
     job-found job.Apart f g a b u v = s.apart d h f g a b u v
     job-found (job.Demo number) f g a b u v = s.demo d h number f g a b u v
 

@@ -36,5 +36,6 @@ number-below (job.Modes direction) number h e = absurd (cc)
 number-below job.Amps number h e = absurd (cc)
 number-below (job.Couple irrep other after count) number h e = absurd (cc)
 number-below (job.Link irrep other) number h e = absurd (cc)
+number-below (job.Extra nature amps) number h e = absurd (cc)
 number-below job.Apart number h e = absurd (cc)
 number-below (job.Demo n) number h e = subst (λ (k : ℕ). k < 64) (same_Some n number (sym e)) h

@@ -15,6 +15,7 @@ is_built (job.Modes direction) = true
 is_built job.Amps = true
 is_built (job.Couple irrep other after count) = true
 is_built (job.Link irrep other) = true
+is_built (job.Extra nature amps) = true
 is_built job.Apart = true
 is_built (job.Demo number) = true
 
@@ -26,6 +27,7 @@ generated (job.Modes direction) = None
 generated job.Amps = None
 generated (job.Couple irrep other after count) = None
 generated (job.Link irrep other) = None
+generated (job.Extra nature amps) = None
 generated job.Apart = None
 generated (job.Demo number) = Some number
 
@@ -37,5 +39,6 @@ HasNumber (job.Modes direction) = Unit {0}
 HasNumber job.Amps = Unit {0}
 HasNumber (job.Couple irrep other after count) = Unit {0}
 HasNumber (job.Link irrep other) = Unit {0}
+HasNumber (job.Extra nature amps) = Unit {0}
 HasNumber job.Apart = Unit {0}
 HasNumber (job.Demo number) = number < 64

@@ -18,6 +18,8 @@ use Rattle.mode_report.specs.DirectionFound.{IsFoundAlong}
 use Rattle.amp_report.specs.AmpsFound.{AreAmpsFound}
 use Rattle.couple_report.specs.CoupleFound.{IsCoupleFound}
 use Rattle.couple_report.specs.LinkFound.{IsLinkFound}
+use Rattle.extra_report.specs.ExtraFound.{AreExtraFound}
+use Rattle.extra_report.specs.ExtraAmpsFound.{AreExtraAmpsFound}
 use Rattle.apart_report.specs.ApartFound.{AreApartFound}
 use Rattle.demo_files.specs.Demo.{IsDemoFile}
 use Rattle.demo_report.specs.DemoFound.{IsDemoFound}
@@ -40,6 +42,8 @@ IsFound (job.Modes (Some (wanted, number))) d f = IsFoundAlong wanted number d f
 IsFound job.Amps d f = AreAmpsFound d f
 IsFound (job.Couple wanted other after count) d f = IsCoupleFound wanted other after count d f
 IsFound (job.Link wanted other) d f = IsLinkFound wanted other d f
+IsFound (job.Extra nature false) d f = AreExtraFound nature d f
+IsFound (job.Extra nature true) d f = AreExtraAmpsFound nature d f
 IsFound job.Apart d f = AreApartFound d f
 IsFound (job.Demo number) d f = IsDemoFound number d f
 

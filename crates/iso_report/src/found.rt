@@ -10,6 +10,8 @@ ghost use Rattle.mode_report.specs.ModesFound.{AreModesFound};
 ghost use Rattle.amp_report.specs.AmpsFound.{AreAmpsFound};
 ghost use Rattle.couple_report.specs.CoupleFound.{IsCoupleFound};
 ghost use Rattle.couple_report.specs.LinkFound.{IsLinkFound};
+ghost use Rattle.extra_report.specs.ExtraFound.{AreExtraFound};
+ghost use Rattle.extra_report.specs.ExtraAmpsFound.{AreExtraAmpsFound};
 ghost use Rattle.apart_report.specs.ApartFound.{AreApartFound};
 ghost use Rattle.demo_report.specs.DemoFound.{IsDemoFound};
 
@@ -19,6 +21,8 @@ use amp_report::{amps_found, amps_report};
 use apart_report::{apart_found, apart_report};
 use couple_report::{couple_found, couple_report, link_found, link_report};
 use demo_report::{demo_found, demo_report};
+use extra_modes::Nature;
+use extra_report::{extra_amps_found, extra_amps_report, extra_found, extra_report};
 use iso_text::{Name, NoMemory, Sink, Text, put_all};
 use list_report::{list_found, listed_text};
 use mode_report::{along_report, modes_along, modes_found, modes_text_of};
@@ -167,6 +171,48 @@ pub fn found_link<O: Sink>(
 {
     match link_found(alloc, file, wanted, other) {
         Ok(Step::Passed(linked)) => put_text(link_report(alloc, &linked), out),
+        Ok(Step::Refused(refusal)) => Err(RunError::Refused(refusal)),
+        Err(_) => Err(RunError::NoMemory),
+    }
+}
+
+/// Writes the occupation or axial vector modes of the orbits of the atoms of the file, or says why there
+/// are none.
+pub fn found_extra<O: Sink>(
+    alloc: Global,
+    file: InducedFile,
+    nature: Nature,
+    out: &mut O,
+) -> Result<(), RunError>
+    requires held { AreInducedHeld file }
+    requires ranged { IsInRange file.divided.file }
+    ensures answer { Ends (AreExtraFound nature file.divided) (change (O.written out.old) (O.written out.new) (O.faults out.old) (O.faults out.new)) result }
+    ensures untouched { (r : Refusal) → IsErrOf result (RunError.Refused r) → out.new ≡ out.old }
+    ensures faults { O.faults out.old ≤ O.faults out.new }
+{
+    match extra_found(alloc, file, nature) {
+        Ok(Step::Passed(extra)) => put_text(extra_report(alloc, &extra), out),
+        Ok(Step::Refused(refusal)) => Err(RunError::Refused(refusal)),
+        Err(_) => Err(RunError::NoMemory),
+    }
+}
+
+/// Writes the amplitudes of the occupations or axial vectors that the lines of the file give, or says why
+/// there are none.
+pub fn found_extra_amps<O: Sink>(
+    alloc: Global,
+    file: InducedFile,
+    nature: Nature,
+    out: &mut O,
+) -> Result<(), RunError>
+    requires held { AreInducedHeld file }
+    requires ranged { IsInRange file.divided.file }
+    ensures answer { Ends (AreExtraAmpsFound nature file.divided) (change (O.written out.old) (O.written out.new) (O.faults out.old) (O.faults out.new)) result }
+    ensures untouched { (r : Refusal) → IsErrOf result (RunError.Refused r) → out.new ≡ out.old }
+    ensures faults { O.faults out.old ≤ O.faults out.new }
+{
+    match extra_amps_found(alloc, file, nature) {
+        Ok(Step::Passed(amplitudes)) => put_text(extra_amps_report(alloc, &amplitudes), out),
         Ok(Step::Refused(refusal)) => Err(RunError::Refused(refusal)),
         Err(_) => Err(RunError::NoMemory),
     }

@@ -2,6 +2,7 @@
 ghost use Rattle.std.specs.Prelude.{◌≡◌};
 ghost use Rattle.iso_report.specs.Jobs.{is_built, generated};
 
+use extra_modes::Nature;
 use iso_text::Name;
 
 /// A command with what its options give.
@@ -39,6 +40,12 @@ pub enum Job {
         irrep: Option<Name>,
         other: Name,
     },
+    /// The occupation or axial vector modes of all orbits, or the amplitudes of those that the lines of
+    /// the file give.
+    Extra {
+        nature: Nature,
+        amps: bool,
+    },
     /// Which irreps of the file are apart, pair by pair.
     Apart,
     /// The summary of a generated file, by its number below 64.
@@ -59,6 +66,7 @@ impl Job {
             Job::Amps => true,
             Job::Couple { .. } => true,
             Job::Link { .. } => true,
+            Job::Extra { .. } => true,
             Job::Apart => true,
             Job::Demo { .. } => true,
         }
@@ -76,6 +84,7 @@ impl Job {
             Job::Amps => None,
             Job::Couple { .. } => None,
             Job::Link { .. } => None,
+            Job::Extra { .. } => None,
             Job::Apart => None,
             Job::Demo { number } => Some(*number),
         }

@@ -7,6 +7,7 @@ use apart_report::law_of_apart_found;
 use couple_report::{law_of_couple_found, law_of_link_found};
 use demo_files::law_of_demo_files;
 use demo_report::law_of_demo_found;
+use extra_report::{law_of_extra_amps_found, law_of_extra_found};
 use iso_text::law_of_ranges;
 use list_report::law_of_list;
 use mode_report::{law_of_modes_along, law_of_modes_found};
@@ -25,6 +26,8 @@ pub fn law_of_outcomes()
     law_of_amps_found();
     law_of_couple_found();
     law_of_link_found();
+    law_of_extra_found();
+    law_of_extra_amps_found();
     law_of_apart_found();
     law_of_demo_files();
     law_of_demo_found();

@@ -9,11 +9,12 @@ ghost use Rattle.demo_files.specs.Demo.{IsDemoFile};
 
 use crate::found::{
     found_along, found_amplitudes, found_apart, found_checked, found_couple, found_demo,
-    found_link, found_listing, found_modes,
+    found_extra, found_extra_amps, found_link, found_listing, found_modes,
 };
 use crate::job::Job;
 use crate::run_error::RunError;
 use demo_files::{demo_file, law_of_demo_files};
+use extra_modes::Nature;
 use iso_text::{Document, MAX_BYTES, Name, Sink};
 use report_steps::{
     Celled, InducedFile, Parented, Refusal, Represented, Starred, Step, divide, induced_of,
@@ -37,6 +38,27 @@ fn after_modes<O: Sink>(
     match direction {
         None => found_modes(alloc, file, out),
         Some((wanted, number)) => found_along(alloc, file, wanted, number, out),
+    }
+}
+
+// The modes of occupations or axial vectors, or their amplitudes.
+fn after_extra<O: Sink>(
+    alloc: Global,
+    nature: Nature,
+    amps: bool,
+    file: InducedFile,
+    out: &mut O,
+) -> Result<(), RunError>
+    requires held { AreInducedHeld file }
+    requires ranged { IsInRange file.divided.file }
+    ensures answer { Ends (IsFound (Job.Extra nature amps) file.divided) (change (O.written out.old) (O.written out.new) (O.faults out.old) (O.faults out.new)) result }
+    ensures untouched { (r : Refusal) → IsErrOf result (RunError.Refused r) → out.new ≡ out.old }
+    ensures faults { O.faults out.old ≤ O.faults out.new }
+{
+    if amps {
+        found_extra_amps(alloc, file, nature, out)
+    } else {
+        found_extra(alloc, file, nature, out)
     }
 }
 
@@ -71,6 +93,7 @@ fn after_induced<O: Sink>(
             count,
         } => found_couple(alloc, file, *irrep, *other, *after, *count, out),
         Job::Link { irrep, other } => found_link(alloc, file, *irrep, *other, out),
+        Job::Extra { nature, amps } => after_extra(alloc, *nature, *amps, file, out),
         Job::Apart => found_apart(alloc, file, out),
         Job::Demo { number } => found_demo(alloc, file, *number, out),
     }

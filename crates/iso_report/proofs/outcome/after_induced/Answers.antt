@@ -26,6 +26,11 @@ returns-in-Link-clause-answer g c =
     let x = c.in-Link in
     job-ends c.args.job.now c.args.file.divided _ c.found_link.result (job.Link x.irrep x.other) x.is c.found_link.ensures.answer
 
+pub returns-in-Extra-clause-answer : goal.returns-in-Extra-clause-answer
+returns-in-Extra-clause-answer g c =
+    let x = c.in-Extra in
+    job-ends c.args.job.now c.args.file.divided _ c.after_extra.result (job.Extra x.nature x.amps) x.is c.after_extra.ensures.answer
+
 pub returns-in-Apart-clause-answer : goal.returns-in-Apart-clause-answer
 returns-in-Apart-clause-answer g c = job-ends c.args.job.now c.args.file.divided _ c.found_apart.result job.Apart c.in-Apart.is c.found_apart.ensures.answer
 
