@@ -1,8 +1,8 @@
 -- What follows from the laws of a field.
 --
--- nought-plus, neg-plus, plus-cancel, times-nought, nought-times, unit-times, neg-unique, neg-nought, neg-neg, times-neg, plus-times, plus-swap, neg-plus-neg
+-- nought-plus, neg-plus, plus-cancel, times-nought, nought-times, unit-times, inverse_unique, neg-unique, neg-nought, neg-neg, times-neg, plus-times, plus-swap, neg-plus-neg
 -- less-..: facts on x - c y, one step of an elimination
-use Rattle.std.proofs.Common.{◌≡◌, refl, sym, ◌∙◌, ap}
+use Rattle.std.proofs.Common.{◌≡◌, refl, sym, ◌∙◌, ap, false}
 use Rattle.cyclo24.specs.FieldOn.{FieldOn}
 
 module _ {K : Type 0} (f : FieldOn K) where
@@ -30,6 +30,12 @@ module _ {K : Type 0} (f : FieldOn K) where
 
   pub unit-times : (x : K) → f.times f.unit x ≡ x
   unit-times x = f.times_comm f.unit x ∙ f.times-unit x
+
+  -- what times x is 1 is the inverse of x
+  pub inverse_unique : (x y : K) → f.is_nought x ≡ false → f.times x y ≡ f.unit → y ≡ f.inverse x
+  inverse_unique x y a e =
+      let i = f.inverse x in
+      sym (unit-times y) ∙ ap (λ w. f.times w y) (sym (f.times_comm i x ∙ f.times-inverse x a)) ∙ f.times_assoc i x y ∙ ap (f.times i) e ∙ f.times-unit i
 
   pub neg-unique : (x y : K) → f.plus x y ≡ f.nought → x ≡ f.neg y
   neg-unique x y h = plus-cancel x (f.neg y) y (h ∙ sym (neg-plus y))

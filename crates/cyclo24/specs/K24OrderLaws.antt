@@ -1,6 +1,7 @@
 -- Values of the field Q(sqrt 2, sqrt 3) compare as their exact values.
 --
 -- exact24_cmp: the derived order is that of the exact values
+-- then-Equal: then equal changes nothing
 -- same24: values with one exact value are equal
 use Rattle.std.specs.Prelude.{◌≡◌, ℤ, refl}
 use Rattle.std.proofs.Common.{sym, ap}
@@ -17,7 +18,7 @@ use Rattle.cyclo24.specs.ExactK24.{Exact24}
 use Rattle.cyclo24.specs.Written4.{fraction_of, numbers4, IsNarrow4}
 use Rattle.cyclo24.specs.Listed.{exact_cmp, is_exact}
 
-then-Equal : (a : Ordering) → ordering_then a Equal ≡ a
+pub then-Equal : (a : Ordering) → ordering_then a Equal ≡ a
 then-Equal Less = refl
 then-Equal Equal = refl
 then-Equal Greater = refl

@@ -174,3 +174,31 @@ pub mod SmallNumbersLaws
 pub mod Coefficients
 -- that values are made of the numbers of their lists, and operations are the written formulas
 pub mod CoefficientsLaws
+-- short numbers, and lists in which a number isn't short
+pub mod Long
+-- what the test for short numbers says
+pub mod LongLaws
+-- four numerators over a denominator, packed in 32 bits
+pub mod Packed4
+-- what the formulas on packed numbers give
+pub mod PackedLaws
+-- rational numbers in 64 bits and packed in 32
+pub mod Ratio
+-- what the formulas on packed rational numbers give
+pub mod RatioLaws
+-- the inverse of a rational number: its denominator over its numerator
+pub mod SwappedLaws
+-- in 128 bits the inverse of a short number writes nothing wide
+pub mod ShortInverseLaws
+-- the field of the exact values of Q(sqrt 2, sqrt 3), whose operations are wide where their results are long
+pub mod ExactShort
+-- what follows for each short type from the laws of K24
+pub mod ExactShortLaws
+-- short values of the field Q(sqrt 2, sqrt 3)
+pub mod ShortK24
+-- short rational values
+pub mod ShortRational
+-- short values compare as their exact values
+pub mod ShortK24OrderLaws
+-- short rational values compare as their exact values
+pub mod ShortRationalOrderLaws

@@ -3,7 +3,9 @@
 -- answered_by: what is reduced is the answer
 -- product_positive, product_ready, sum_ready, inverse_answered, inverse_ready: what is asked before reducing
 -- times_zero: by 0
+-- fraction_all, short, two_all, u_all, v_all: nothing wide in short formulas
 -- rational_within: a rational number of short parts is short
+-- rational_product_numbers, rational_sum_numbers: the numbers of a product and a sum of rational numbers
 -- product_answered, rational_product_answered, sum_answered, rational_sum_answered, inverse_short: the short ways
 use Rattle.std.proofs.Common.{◌≡◌, ◌<◌, ◌≤◌, ◌*◌, ◌^◌, ℕ, refl, sym, ap, ◌∙◌, subst, arith, rules, ℤ, pos, negsuc, neg_ℤ, ◌+ℤ◌, ◌*ℤ◌, List, [], ◌∷◌, true, false, Ok, lit≤, le_trans, get_or}
 use Rattle.std.specs.Prelude.{cond, int_lt}
@@ -113,17 +115,17 @@ inverse_answered_by a r u s e w l n =
 
 -- nothing wide in short formulas
 
-fraction_all : (c0 c1 c2 c3 d : Checked Whole) → any_wide c0.written ≡ false → any_wide c1.written ≡ false → any_wide c2.written ≡ false → any_wide c3.written ≡ false → any_wide d.written ≡ false → any_wide (fraction c0 c1 c2 c3 d).written ≡ false
+pub fraction_all : (c0 c1 c2 c3 d : Checked Whole) → any_wide c0.written ≡ false → any_wide c1.written ≡ false → any_wide c2.written ≡ false → any_wide c3.written ≡ false → any_wide d.written ≡ false → any_wide (fraction c0 c1 c2 c3 d).written ≡ false
 unfolding fraction
 fraction_all c0 c1 c2 c3 d h0 h1 h2 h3 hd = then_all c0 _ h0 (then_all c1 _ h1 (then_all c2 _ h2 (then_all c3 _ h3 (then_all d _ hd refl))))
 
-short : (f : ℤ) (x y : Whole) → unsigned_abs f ≤ 8 → unsigned_abs x.n ≤ 2 ^ 28 → unsigned_abs y.n ≤ 2 ^ 28 → IsShortProduct (product_of f x y)
+pub short : (f : ℤ) (x y : Whole) → unsigned_abs f ≤ 8 → unsigned_abs x.n ≤ 2 ^ 28 → unsigned_abs y.n ≤ 2 ^ 28 → IsShortProduct (product_of f x y)
 short f x y e h k = record { factor = e; x = h; y = k }
 
 four_all : (p q r s : Product) → IsShortProduct p → IsShortProduct q → IsShortProduct r → IsShortProduct s → any_wide (sum_of (p ∷ q ∷ r ∷ s ∷ [])).written ≡ false
 four_all p q r s h k l m = short_narrow (p ∷ q ∷ r ∷ s ∷ []) (lit≤ tt) (more p (q ∷ r ∷ s ∷ []) h (more q (r ∷ s ∷ []) k (more r (s ∷ []) l (more s [] m none))))
 
-two_all : (p q : Product) → IsShortProduct p → IsShortProduct q → any_wide (sum_of (p ∷ q ∷ [])).written ≡ false
+pub two_all : (p q : Product) → IsShortProduct p → IsShortProduct q → any_wide (sum_of (p ∷ q ∷ [])).written ≡ false
 two_all p q h k = short_narrow (p ∷ q ∷ []) (lit≤ tt) (more p (q ∷ []) h (more q [] k none))
 
 product_all : (a b : Fraction4) → IsWithin4 (2 ^ 28) (short_of a) → IsWithin4 (2 ^ 28) (short_of b) → any_wide (product a b).written ≡ false
@@ -182,12 +184,19 @@ products-rational a b h k =
     let x = a.a0.n in let y = b.a0.n in
     sym ((λ i. list4 (mul4 whole (four_of-rational a h i) (four_of-rational b k i))) ∙ ap list4 (scaled whole whole_ring x (num4 whole y)) ∙ (λ i. (x *ℤ y) ∷ times_zero x i ∷ times_zero x i ∷ times_zero x i ∷ []))
 
+-- the numbers of a product of rational numbers
+pub rational_product_numbers : (a b : Fraction4) (n d : Small) → IsRational4 a → IsRational4 b → n ≡ record { n = a.a0.n *ℤ b.a0.n } → d ≡ record { n = a.d.n *ℤ b.d.n }
+    → (rational n.n ≡ numerators4 (product a b).value) × (d.n ≡ (product a b).value.d.n)
+rational_product_numbers a b n d h k e f =
+    let v = product_value a b in
+    let x : rational n.n ≡ list4 (mul4 whole (four_of a) (four_of b)) = ap (λ (w : Small). rational w.n) e ∙ products-rational a b h k in
+    (x ∙ sym v.0, ap (λ (w : Small). w.n) f ∙ sym v.1)
+
 pub rational_product_answered : (a b s : Fraction4) (n d : Small) → IsRational4 a → IsRational4 b → n ≡ record { n = a.a0.n *ℤ b.a0.n } → d ≡ record { n = a.d.n *ℤ b.d.n }
     → numbers4 s ≡ lowest_terms (rational n.n) (unsigned_abs d.n) → IsNarrow4 s → IsAnswer (product a b) s
 rational_product_answered a b s n d h k e f l m =
-    let v = product_value a b in
-    let x : rational n.n ≡ list4 (mul4 whole (four_of a) (four_of b)) = ap (λ (w : Small). rational w.n) e ∙ products-rational a b h k in
-    record { written = product_all a b (rational_within a h) (rational_within b k); lowest = l ∙ (λ i. lowest_terms ((x ∙ sym v.0) i) (unsigned_abs ((ap (λ (w : Small). w.n) f ∙ sym v.1) i))); narrow = m }
+    let x = rational_product_numbers a b n d h k e f in
+    record { written = product_all a b (rational_within a h) (rational_within b k); lowest = l ∙ (λ i. lowest_terms (x.0 i) (unsigned_abs (x.1 i))); narrow = m }
 
 -- sums
 
@@ -230,17 +239,23 @@ rational_numbers f a b d e g p q x y n l hd he hg hp hq hx hy hn hl =
     let qe : q.n ≡ quotient b.d.n k = ap (λ (w : Small). w.n) hq ∙ (λ i. quotient (he i).n (ge i)) in
     (ap (λ (w : Small). w.n) hn ∙ (λ i. qe i *ℤ (hx i).n +ℤ f *ℤ (pe i *ℤ (hy i).n)), ap (λ (w : Small). w.n) hl ∙ (λ i. (hd i).n *ℤ qe i))
 
-pub rational_sum_answered : (f : Whole) (a b s : Fraction4) (n l : Small) → unsigned_abs f.n ≤ 8 → IsRational4 a → IsRational4 b
+pub rational_sum_numbers : (f : Whole) (a b : Fraction4) (n l : Small) → IsRational4 a → IsRational4 b
     → (n.n ≡ coefficient f.n a.d.n b.d.n a.a0.n b.a0.n) × (l.n ≡ a.d.n *ℤ quotient b.d.n (gcd (unsigned_abs a.d.n) (unsigned_abs b.d.n)))
-    → numbers4 s ≡ lowest_terms (rational n.n) (unsigned_abs l.n) → IsNarrow4 s → IsAnswer (sum f a b) s
-rational_sum_answered f a b s n l hf h k e low m =
+    → (rational n.n ≡ numerators4 (sum f a b).value) × (l.n ≡ (sum f a b).value.d.n)
+rational_sum_numbers f a b n l h k e =
     let g = gcd (unsigned_abs a.d.n) (unsigned_abs b.d.n) in
     let p = quotient a.d.n g in let q = quotient b.d.n g in
     let v = sum_value f a (record { n = q }) b (record { n = p }) in
     let zero : q *ℤ pos 0 +ℤ f.n *ℤ (p *ℤ pos 0) ≡ pos 0 = (λ i. times_zero q i +ℤ f.n *ℤ times_zero p i) ∙ (λ i. pos 0 +ℤ times_zero f.n i) in
     let c : (y z : ℤ) → y ≡ pos 0 → z ≡ pos 0 → pos 0 ≡ q *ℤ y +ℤ f.n *ℤ (p *ℤ z) = λ y z hy hz. sym ((λ i. q *ℤ hy i +ℤ f.n *ℤ (p *ℤ hz i)) ∙ zero) in
-    let x : rational n.n ≡ numerators4 (sum f a b).value = (λ i. e.0 i ∷ c a.a1.n b.a1.n h.a1 k.a1 i ∷ c a.a2.n b.a2.n h.a2 k.a2 i ∷ c a.a3.n b.a3.n h.a3 k.a3 i ∷ []) ∙ sym v.0 in
-    sum_answered f a b s (rational n.n) l.n hf (rational_within a h) (rational_within b k) x (e.1 ∙ sym v.1) low m
+    ((λ i. e.0 i ∷ c a.a1.n b.a1.n h.a1 k.a1 i ∷ c a.a2.n b.a2.n h.a2 k.a2 i ∷ c a.a3.n b.a3.n h.a3 k.a3 i ∷ []) ∙ sym v.0, e.1 ∙ sym v.1)
+
+pub rational_sum_answered : (f : Whole) (a b s : Fraction4) (n l : Small) → unsigned_abs f.n ≤ 8 → IsRational4 a → IsRational4 b
+    → (n.n ≡ coefficient f.n a.d.n b.d.n a.a0.n b.a0.n) × (l.n ≡ a.d.n *ℤ quotient b.d.n (gcd (unsigned_abs a.d.n) (unsigned_abs b.d.n)))
+    → numbers4 s ≡ lowest_terms (rational n.n) (unsigned_abs l.n) → IsNarrow4 s → IsAnswer (sum f a b) s
+rational_sum_answered f a b s n l hf h k e low m =
+    let x = rational_sum_numbers f a b n l h k e in
+    sum_answered f a b s (rational n.n) l.n hf (rational_within a h) (rational_within b k) x.0 x.1 low m
 
 -- inverses
 
@@ -266,11 +281,11 @@ over_all a u v n h hu hv =
     (m (negsuc 0) (pos 2) a.a2 a.a3 (lit≤ tt) (lit≤ tt) h.a2 h.a3) (m (negsuc 0) (pos 1) a.a3 a.a2 (lit≤ tt) (lit≤ tt) h.a3 h.a2)
     refl
 
-u_all : (a : Fraction4) → IsWithin4 (2 ^ 28) (short_of a) → any_wide (norm_u a).written ≡ false
+pub u_all : (a : Fraction4) → IsWithin4 (2 ^ 28) (short_of a) → any_wide (norm_u a).written ≡ false
 unfolding norm_u
 u_all a h = four_all _ _ _ _ (short (pos 1) a.a0 a.a0 (lit≤ tt) h.a0 h.a0) (short (pos 2) a.a1 a.a1 (lit≤ tt) h.a1 h.a1) (short (negsuc 2) a.a2 a.a2 (lit≤ tt) h.a2 h.a2) (short (negsuc 5) a.a3 a.a3 (lit≤ tt) h.a3 h.a3)
 
-v_all : (a : Fraction4) → IsWithin4 (2 ^ 28) (short_of a) → any_wide (norm_v a).written ≡ false
+pub v_all : (a : Fraction4) → IsWithin4 (2 ^ 28) (short_of a) → any_wide (norm_v a).written ≡ false
 unfolding norm_v
 v_all a h = two_all _ _ (short (pos 2) a.a0 a.a1 (lit≤ tt) h.a0 h.a1) (short (negsuc 5) a.a2 a.a3 (lit≤ tt) h.a2 h.a3)
 

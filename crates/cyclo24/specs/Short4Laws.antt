@@ -1,7 +1,7 @@
 -- What is computed on four numerators over a denominator in 64 bits.
 --
 -- lowest_by_one, lowest_over_one: numbers that nothing divides, or over 1, are in lowest terms
--- gcd_of_zero, zero_over: of 0
+-- gcd_of_zero, common-rational, zero_over: of 0
 -- rational_narrow, lowest-rational: a rational number in lowest terms
 use Rattle.std.proofs.Common.{◌≡◌, ◌/◌, ◌%◌, ℕ, arith, ap, ◌∙◌, sym, ℤ, pos, [], ◌∷◌, ◌++◌, List, lit≤, true, false}
 use Rattle.std.specs.Int.RustNames.{unsigned_abs}
@@ -36,7 +36,7 @@ lowest_over_one xs numbers d h n =
 pub gcd_of_zero : (d : ℕ) → gcd 0 d ≡ d
 gcd_of_zero d = let z : 0 % d ≡ 0 = omega arith in sym (gcd_step 0 d) ∙ gcd_zero d (0 % d) z
 
-common-rational : (n : ℤ) (d : ℕ) → common (rational n) d ≡ gcd (unsigned_abs n) d
+pub common-rational : (n : ℤ) (d : ℕ) → common (rational n) d ≡ gcd (unsigned_abs n) d
 common-rational n d = ap (λ k. gcd (unsigned_abs n) (gcd 0 (gcd 0 k))) (gcd_of_zero d) ∙ ap (λ k. gcd (unsigned_abs n) (gcd 0 k)) (gcd_of_zero d) ∙ ap (gcd (unsigned_abs n)) (gcd_of_zero d)
 
 pub zero_over : (g : ℕ) → 0 / g ≡ 0

@@ -11,7 +11,7 @@ use Rattle.algebra.specs.Solve.{V, K, Neg, Add, Mul, at}
 use Rattle.algebra.specs.SolveLaws.{solve, by_test}
 use Rattle.cyclo24.specs.Numerals.{ring_of}
 use Rattle.cyclo24.specs.NumeralLaws.{ring_of_is}
-use Rattle.cyclo24.specs.FieldLaws.{neg-unique, neg-plus, nought-plus, times-nought, unit-times}
+use Rattle.cyclo24.specs.FieldLaws.{neg-unique, neg-plus, nought-plus, times-nought, unit-times, inverse_unique}
 use Rattle.cyclo24.specs.ExactZ24.{z24_laws, conj, real_part, imag_part, from_real, imaginary}
 use Rattle.cyclo24.specs.Z24Laws.{conj-conj, conj-plus, conj-times, conj-from_real, conj-imaginary, imaginary-square, from_real-plus, from_real-times, from_real-unit, from_real-nought, real_part-plus, imag_part-plus, real_part-from_real, imag_part-from_real, real_part-imaginary, imag_part-imaginary, parts}
 use Rattle.cyclo24.specs.Z24Parts.{k24, E, R, of_parts, by_conjugate}
@@ -115,13 +115,7 @@ times-conj x =
     let n = z24_laws.times x (conj x) in
     same_parts n (from_real (real_part n)) (sym (real_part-from_real (real_part n))) (imag_part-times-conj x ∙ sym (imag_part-from_real (real_part n)))
 
--- in a field, what times x is 1 is the inverse of x
 module _ {A : Type 0} (f : FieldOn A) where
-  inverse_unique : (x y : A) → f.is_nought x ≡ false → f.times x y ≡ f.unit → y ≡ f.inverse x
-  inverse_unique x y a e =
-      let i = f.inverse x in
-      sym (unit-times f y) ∙ ap (λ w. f.times w y) (sym (f.times_comm i x ∙ f.times-inverse x a)) ∙ f.times_assoc i x y ∙ ap (f.times i) e ∙ f.times-unit i
-
   -- a product that is 0
   factor_zero : (x y : A) → f.is_nought x ≡ false → f.times x y ≡ f.nought → y ≡ f.nought
   factor_zero x y a e =

@@ -14,10 +14,16 @@ mod k24;
 mod laws;
 mod lowest4;
 mod lowest8;
+mod packed;
+mod packed4;
 mod powers;
 mod print;
+mod ratio;
+mod short;
 mod short4;
 mod short8;
+mod short_k24;
+mod short_rational;
 mod small;
 mod terms;
 mod whole;
@@ -33,4 +39,7 @@ pub use laws::{
     law_of_coefficients, law_of_formulas, law_of_renumbering, law_of_roots, law_of_squares,
     law_of_sums, law_of_whole_numbers,
 };
+pub use short::Short;
+pub use short_k24::ShortK24;
+pub use short_rational::ShortRational;
 pub use z24::Z24;

@@ -2,11 +2,13 @@
 // shortest way that its numbers allow: rational numbers, numbers in 64 bits, or any numbers.
 ghost use Rattle.std.specs.Prelude.{◌≡◌, ◌≤◌, ◌<◌, ◌^◌, pos, true, IfOk, IfErr};
 ghost use Rattle.std.specs.Int.RustNames.{unsigned_abs};
+ghost use Rattle.std.specs.List.{list_all};
 ghost use Rattle.cyclo24.specs.Four.{norm4};
 ghost use Rattle.algebra.specs.Whole.{whole};
 ghost use Rattle.cyclo24.specs.Checked.{any_wide};
 ghost use Rattle.cyclo24.specs.Listed.{is_positive};
-ghost use Rattle.cyclo24.specs.Written4.{numerators4, IsNarrow4, product, sum};
+ghost use Rattle.cyclo24.specs.Long.{is_short};
+ghost use Rattle.cyclo24.specs.Written4.{numerators4, numbers4, IsNarrow4, product, sum};
 ghost use Rattle.cyclo24.specs.Written4Inverse.{inverse, upright};
 ghost use Rattle.cyclo24.specs.Short4.{short_of, four_of, IsWithin4, IsRational4};
 ghost use Rattle.cyclo24.specs.Lowest4.{IsAnswered4};
@@ -134,13 +136,14 @@ pub(crate) fn are_rational(a: &Fraction4, b: &Fraction4) -> bool
 }
 
 impl Fraction4 {
-    // Whether all its numbers are short.
-    fn is_short(&self) -> bool
-        ensures { result ≡ true → IsWithin4 (2 ^ 28) (short_of self.now) }
+    /// Whether all its numbers are short.
+    pub(crate) fn is_short(&self) -> bool
+        ensures within { result ≡ true → IsWithin4 (2 ^ 28) (short_of self.now) }
+        ensures exact { result ≡ list_all is_short (numbers4 self.now) }
     {
-        self.d.is_short()
-            && (self.a0.is_short()
-                && (self.a1.is_short() && (self.a2.is_short() && self.a3.is_short())))
+        self.a0.is_short()
+            && (self.a1.is_short()
+                && (self.a2.is_short() && (self.a3.is_short() && self.d.is_short())))
     }
 
     // Whether all its numbers are tiny.
@@ -162,8 +165,8 @@ impl Fraction4 {
         self.a1.either(self.a2).either(self.a3)
     }
 
-    // The number in 64 bits.
-    fn short(&self) -> Short4
+    /// The number in 64 bits.
+    pub(crate) fn short(&self) -> Short4
         requires { IsWithin4 (2 ^ 28) (short_of self.now) }
         ensures { result ≡ short_of self.now }
     {

@@ -191,17 +191,31 @@ impl Short4 {
 
     // The number in lowest terms, over a denominator that may be other than 1.
     #[inline(never)]
-    fn reduced(self) -> Fraction4
+    fn reduced(self) -> Short4
         requires most { IsWithin4 (2 ^ 62) self }
         requires positive { is_positive self.d.n ≡ true }
-        ensures lowest { numbers4 result ≡ lowest_terms (numerators self) (unsigned_abs self.d.n) }
-        ensures narrow { IsNarrow4 result }
+        ensures lowest { numbers4 (wide_of result) ≡ lowest_terms (numerators self) (unsigned_abs self.d.n) }
+        ensures most { IsWithin4 (2 ^ 62) result }
     {
         let all = self.content();
         if all.is_one() {
-            return self.widened();
+            return self;
         }
-        self.divided(all).widened()
+        self.divided(all)
+    }
+
+    /// The number in lowest terms, in 64 bits.
+    #[inline]
+    pub(crate) fn lowered(self) -> Short4
+        requires most { IsWithin4 (2 ^ 62) self }
+        requires positive { is_positive self.d.n ≡ true }
+        ensures lowest { numbers4 (wide_of result) ≡ lowest_terms (numerators self) (unsigned_abs self.d.n) }
+        ensures most { IsWithin4 (2 ^ 62) result }
+    {
+        if self.d.is_one() {
+            return self;
+        }
+        self.reduced()
     }
 
     /// The number in lowest terms.
@@ -212,9 +226,6 @@ impl Short4 {
         ensures lowest { numbers4 result ≡ lowest_terms (numerators self) (unsigned_abs self.d.n) }
         ensures narrow { IsNarrow4 result }
     {
-        if self.d.is_one() {
-            return self.widened();
-        }
-        self.reduced()
+        self.lowered().widened()
     }
 }

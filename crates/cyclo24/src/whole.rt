@@ -3,6 +3,7 @@ ghost use Rattle.std.specs.Prelude.{◌≡◌, ◌<◌, ◌≤◌, ◌^◌, pos,
 ghost use Rattle.std.specs.Int.RustNames.{unsigned_abs};
 ghost use Rattle.std.specs.Ordering.{int_eq};
 ghost use Rattle.cyclo24.specs.Gcd.{gcd, quotient};
+ghost use Rattle.cyclo24.specs.Long.{is_short};
 ghost use Rattle.cyclo24.specs.Checked.{answer, written, times, plus, term, sum_of, is_wide};
 
 use crate::Wide;
@@ -160,9 +161,10 @@ impl Whole {
     }
 
     /// Whether its absolute value is below 2^28.
-    #[tactic(auto, using(crate::specs::SmallLaws::short_between))]
+    #[tactic(auto, unfolding(crate::specs::Long::is_short), using(crate::specs::SmallLaws::short_between, crate::specs::LongLaws::between_short))]
     pub(crate) fn is_short(self) -> bool
-        ensures { result ≡ true → unsigned_abs self.n ≤ 2 ^ 28 }
+        ensures most { result ≡ true → unsigned_abs self.n ≤ 2 ^ 28 }
+        ensures exact { result ≡ is_short self.n }
     {
         -LEAST_NOT_SHORT < self.n && self.n < LEAST_NOT_SHORT
     }

@@ -1,0 +1,30 @@
+use Rattle.std.proofs.Common.{refl}
+use Rattle.cyclo24.specs.ExactK24.{k24_laws}
+use Rattle.cyclo24.specs.Written4.{numbers4, product}
+use Rattle.cyclo24.specs.Short4.{wide_of}
+use Rattle.cyclo24.specs.Packed4.{widened}
+use Rattle.cyclo24.specs.K24Laws.{made_low, low_positive, product24}
+use Rattle.cyclo24.specs.ShortK24.{exact_short}
+use Rattle.cyclo24.specs.ExactShortLaws.{answered_exact, answered_wide}
+use Rattle.cyclo24.proofs.short_k24.ShortK24Field.mul.Goals as goal
+
+pub product-requires-clause-positive : goal.product-requires-clause-positive
+product-requires-clause-positive c = low_positive (widened c.args.self.fraction) c.args.self.lowest
+
+pub product-requires-clause-positive_other : goal.product-requires-clause-positive_other
+product-requires-clause-positive_other c = low_positive (widened c.args.other.fraction) c.args.other.lowest
+
+pub of-requires : goal.of-requires
+of-requires c =
+    let a = widened c.args.self.fraction in let b = widened c.args.other.fraction in
+    made_low (wide_of c.product.result) (k24_laws.times (exact_short c.args.self) (exact_short c.args.other)) (product24 a b ((product a b).value) (wide_of c.product.result) c.args.self.lowest c.args.other.lowest refl c.product.ensures)
+
+pub returns-clause-exact : goal.returns-clause-exact
+returns-clause-exact c =
+    let a = widened c.args.self.fraction in let b = widened c.args.other.fraction in
+    answered_exact exact_short c.of.result (numbers4 (wide_of c.product.result)) (k24_laws.times (exact_short c.args.self) (exact_short c.args.other)) (product24 a b ((product a b).value) (wide_of c.product.result) c.args.self.lowest c.args.other.lowest refl c.product.ensures) c.of.ensures.exact
+
+pub returns-clause-wide : goal.returns-clause-wide
+returns-clause-wide c =
+    let a = widened c.args.self.fraction in let b = widened c.args.other.fraction in
+    answered_wide c.of.result (numbers4 (wide_of c.product.result)) (k24_laws.times (exact_short c.args.self) (exact_short c.args.other)) (product24 a b ((product a b).value) (wide_of c.product.result) c.args.self.lowest c.args.other.lowest refl c.product.ensures) c.of.ensures.wide
