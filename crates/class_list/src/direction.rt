@@ -25,8 +25,8 @@ impl<F: Field> Model for Direction<F> {
 }
 
 impl<F: Field> Direction<F> {
-    // The direction of these equations and elements.
-    pub(crate) fn new(equations: Echelon<F>, stabiliser: Stab) -> Direction<F>
+    /// The direction of these equations and elements.
+    pub fn new(equations: Echelon<F>, stabiliser: Stab) -> Direction<F>
         requires whole { equations.whole ≡ true }
         requires few { length equations.rows ≤ equations.width }
         ensures equations { result.equations ≡ equations }
@@ -56,6 +56,7 @@ impl<F: Field> Direction<F> {
     pub fn equations(&self) -> &Echelon<F>
         ensures equations { result.now ≡ self.now.equations }
         ensures whole { self.now.equations.whole ≡ true }
+        ensures few { length self.now.equations.rows ≤ self.now.equations.width }
     {
         &self.equations
     }
