@@ -1,0 +1,3 @@
+pub mod TallyLemmas
+pub mod ToldLemmas
+pub mod WatcherLemmas
