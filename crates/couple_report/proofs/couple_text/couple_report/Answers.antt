@@ -14,7 +14,7 @@ pub returns : goal.returns
 returns c =
     let x = c.args.found.now in
     let body = flat_map (direction_text x.quotient (x.dim + x.other_dim)) (page x.after x.count (directions_of k24_laws exact24 x.listing)) in
-    let total = c.len.ensures ∙ sym (length-map x.listing (direction_of k24_laws exact24)) in
+    let total = c.len.ensures.value ∙ sym (length-map x.listing (direction_of k24_laws exact24)) in
     let order = c.order-order.ensures.value in
     c.in_ok-push_page.ensures ∙ ap (λ (t : List ℕ). t ++ body) c.in_ok-text.ensures
     ∙ three-behind (codes "isodist " ++ decimal x.format ++ codes " couple")
