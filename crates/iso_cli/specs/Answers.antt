@@ -1,16 +1,16 @@
 -- What a call of the program leaves on its streams, by its status.
 --
 -- Says line err: err has grown by the line
--- Answers job bytes status out err: the answer to a job over all the bytes that it takes of a source
+-- Answers job ws bytes status out err: the answer to a job with watchers, over all the bytes that it takes of a source
 -- AnswersUsage status out err: the answer where the words name no job
--- AnswersNotBuilt status out err: the answer where the words' job isn't built
--- IsNarrow job bytes: no number of the job passes its bound on these bytes; IsNotWide r: the refusal is no such number
+-- IsNarrow job ws bytes: no number of the job passes its bound on these bytes; IsNotWide r: the refusal is no such number
 use Rattle.std.specs.Prelude.{◌≢◌, ◌⊎◌, ℕ, ◌<◌, ◌≤◌, List, [], length, codes}
+use Rattle.iso_watch.specs.Watchers.{Watcher}
 use Rattle.iso_report.specs.declared.job.Job.{Job}
 use Rattle.report_steps.specs.declared.refusal.Refusal.{Refusal}
 use Rattle.report_steps.specs.declared.refusal.Refusal.TheVariants as refusal
 use Rattle.iso_report.specs.Endings.{Change, Grew, GrewByPrefix, HasFailed, IsDone, IsCutShort, IsBrokenOff}
-use Rattle.iso_report.specs.Outcome.{IsOutcome, refused}
+use Rattle.iso_report.specs.Outcome.{HasOutcome, refused}
 use Rattle.report_steps.specs.Report.{line_of}
 use Rattle.iso_text.specs.Lines.{line}
 use Rattle.iso_cli.specs.UsageLine.{usage_line}
@@ -50,34 +50,30 @@ SaysUsage status.NoMemory err = Says memory_line err
 SaysUsage _ err = ⊥
 
 -- a refusal: too many bytes were left, or the definitions refuse these
-abbrev pub IsRefused : Job → List ℕ → Change → Type 0
-IsRefused job bytes err = ((max_bytes < length bytes) × Says too_long_line err) ⊎ ((r : Refusal) × (length bytes ≤ max_bytes) × IsOutcome job bytes (refused r) × Says (line_of r) err)
+abbrev pub IsRefused : Job → List Watcher → List ℕ → Change → Type 0
+IsRefused job ws bytes err = ((max_bytes < length bytes) × Says too_long_line err) ⊎ ((r : Refusal) × (length bytes ≤ max_bytes) × HasOutcome job ws bytes (refused r) × Says (line_of r) err)
 
 -- want of memory: nothing was written, or a prefix of the report of few enough bytes
-abbrev pub IsStopped : Job → List ℕ → Change → Type 0
-IsStopped job bytes out = Grew [] out ⊎ ((length bytes ≤ max_bytes) × IsCutShort (IsOutcome job bytes) out)
+abbrev pub IsStopped : Job → List Watcher → List ℕ → Change → Type 0
+IsStopped job ws bytes out = Grew [] out ⊎ ((length bytes ≤ max_bytes) × IsCutShort (HasOutcome job ws bytes) out)
 
 -- the answer to a job, by its status, over all the bytes that it takes: where they are too many, it is
 -- the refusal of their length, a read fault or want of memory
-abbrev pub Answers : Job → List ℕ → Status → Change → Change → Type 0
-Answers job bytes status.Done out err = (length bytes ≤ max_bytes) × IsDone (IsOutcome job bytes) out × Grew [] err
-Answers job bytes status.Refused out err = Grew [] out × IsRefused job bytes err
-Answers job bytes status.Usage out err = ⊥
-Answers job bytes status.ReadFault out err = Grew [] out × Says read_line err
-Answers job bytes status.WriteFault out err = (length bytes ≤ max_bytes) × IsBrokenOff (IsOutcome job bytes) out × Says write_line err
-Answers job bytes status.NoMemory out err = IsStopped job bytes out × Says memory_line err
+abbrev pub Answers : Job → List Watcher → List ℕ → Status → Change → Change → Type 0
+Answers job ws bytes status.Done out err = (length bytes ≤ max_bytes) × IsDone (HasOutcome job ws bytes) out × Grew [] err
+Answers job ws bytes status.Refused out err = Grew [] out × IsRefused job ws bytes err
+Answers job ws bytes status.Usage out err = ⊥
+Answers job ws bytes status.ReadFault out err = Grew [] out × Says read_line err
+Answers job ws bytes status.WriteFault out err = (length bytes ≤ max_bytes) × IsBrokenOff (HasOutcome job ws bytes) out × Says write_line err
+Answers job ws bytes status.NoMemory out err = IsStopped job ws bytes out × Says memory_line err
 
 -- the answer where the words name no job: the usage line, and nothing on out
 abbrev pub AnswersUsage : Status → Change → Change → Type 0
 AnswersUsage status out err = Grew [] out × SaysUsage status err
 
--- the answer where the words' job isn't built: the line of that refusal, and nothing on out
-abbrev pub AnswersNotBuilt : Status → Change → Change → Type 0
-AnswersNotBuilt status out err = Grew [] out × SaysRefusal refusal.NotBuilt status err
-
 -- no number of the job passes its bound
-abbrev pub IsNarrow : Job → List ℕ → Type 0
-IsNarrow job bytes = (k : ℕ) → IsOutcome job bytes (refused (refusal.Wide k)) → ⊥
+abbrev pub IsNarrow : Job → List Watcher → List ℕ → Type 0
+IsNarrow job ws bytes = (k : ℕ) → HasOutcome job ws bytes (refused (refusal.Wide k)) → ⊥
 
 -- the refusal is no number that passes its bound
 abbrev pub IsNotWide : Refusal → Type 0

@@ -20,8 +20,8 @@ pub mod UsageLine
 pub mod CommandLine
 -- what the options of a command line give, read
 pub mod Values
--- the jobs that are built, by the words
-pub mod Built
+-- what the job of the words reads of the source
+pub mod Reading
 -- what a call of the program leaves on its streams, by its status
 pub mod Answers
 -- the exit statuses

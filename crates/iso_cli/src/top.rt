@@ -1,13 +1,13 @@
 // The top call.
-ghost use Rattle.std.specs.Prelude.{◌≡◌, ◌≢◌, ◌+◌, ◌<◌, ◌≤◌, ◌⊎◌, [], Some, true, IfNone, IfSome, IsNone, IsSome, List, ℕ, length};
+ghost use Rattle.std.specs.Prelude.{◌≡◌, ◌≢◌, ◌+◌, ◌<◌, ◌≤◌, ◌⊎◌, [], Some, IfNone, IfSome, IsNone, IsSome, List, ℕ, length, map};
 ghost use Rattle.iso_text.specs.Counts.{HasRisen, raised};
 ghost use Rattle.iso_text.specs.Streams.{IsRestOf};
 ghost use Rattle.iso_report.specs.Endings.{change};
-ghost use Rattle.iso_report.specs.Outcome.{IsOutcome, report, refused};
+ghost use Rattle.iso_report.specs.Outcome.{HasOutcome, report, refused};
 ghost use Rattle.report_steps.specs.Report.{line_of};
-ghost use Rattle.iso_report.specs.Jobs.{HasNumber, generated, is_built};
-ghost use Rattle.iso_cli.specs.Answers.{Answers, AnswersNotBuilt, AnswersUsage, IsNarrow, IsNotWide, Says, SaysRefusal};
-ghost use Rattle.iso_cli.specs.Built.{HasUnbuilt, built_job_of, reading_job_of, taken_by};
+ghost use Rattle.iso_report.specs.Jobs.{HasNumber, generated};
+ghost use Rattle.iso_cli.specs.Answers.{Answers, AnswersUsage, IsNarrow, IsNotWide, Says, SaysRefusal};
+ghost use Rattle.iso_cli.specs.Reading.{reading_job_of, taken_by};
 ghost use Rattle.iso_cli.specs.JobOf.{job_of, texts_of};
 
 use crate::Status;
@@ -15,6 +15,7 @@ use crate::usage::usage_line;
 use crate::words::read_words;
 use iso_report::{Job, Refusal, RunError, law_of_outcomes, refusal_line, run};
 use iso_text::{MAX_BYTES, Sink, Source, TakeError, put_all, take_all};
+use iso_watch::Watch;
 use std::alloc::Global;
 
 const READ_FAILED: &str = "isodist: read failed\n";
@@ -51,11 +52,11 @@ fn answer<O: Sink, E: Sink>(
     bytes: &[u8],
     out: &mut O,
     err: &mut E,
+    watchers: &mut Vec<Box<dyn Watch>>,
 ) -> Status
-    requires built { is_built job ≡ true }
     requires number { HasNumber job }
     requires few { length bytes.now ≤ MAX_BYTES }
-    ensures answers { Answers job bytes.now result
+    ensures answers { Answers job (map (λ w. watcher w) watchers.old.items) bytes.now result
         (change (O.written out.old) (O.written out.new) (O.faults out.old) (O.faults out.new))
         (change (E.written err.old) (E.written err.new) (E.faults err.old) (E.faults err.new)) }
     ensures refused { result ≡ Status.Refused → (r : Refusal) × Says (line_of r) (change (E.written err.old) (E.written err.new) (E.faults err.old) (E.faults err.new)) }
@@ -64,7 +65,7 @@ fn answer<O: Sink, E: Sink>(
     ensures no_read_fault { result ≢ Status.ReadFault }
     ensures no_usage { result ≢ Status.Usage }
 {
-    match run(alloc, &job, bytes, out) {
+    match run(alloc, &job, bytes, watchers, out) {
         Ok(()) => Status::Done,
         Err(RunError::Refused(refusal)) => refuse(alloc, &refusal, err),
         Err(RunError::WriteFault) => say(err, WRITE_FAILED.as_bytes(), Status::WriteFault),
@@ -79,10 +80,10 @@ fn answer_source<S: Source, O: Sink, E: Sink>(
     source: &mut S,
     out: &mut O,
     err: &mut E,
+    watchers: &mut Vec<Box<dyn Watch>>,
 ) -> Status
-    requires built { is_built job ≡ true }
     requires number { HasNumber job }
-    ensures answers { IfSome (S.left source.old) (λ bytes. Answers job bytes result
+    ensures answers { IfSome (S.left source.old) (λ bytes. Answers job (map (λ w. watcher w) watchers.old.items) bytes result
         (change (O.written out.old) (O.written out.new) (O.faults out.old) (O.faults out.new))
         (change (E.written err.old) (E.written err.new) (E.faults err.old) (E.faults err.new))) }
     ensures refused_out { result ≡ Status.Refused → out.new ≡ out.old }
@@ -97,7 +98,7 @@ fn answer_source<S: Source, O: Sink, E: Sink>(
     ensures rest { IsRestOf (S.left source.old) (S.left source.new) }
 {
     match take_all(alloc, source) {
-        Ok(bytes) => answer(alloc, job, &bytes, out, err),
+        Ok(bytes) => answer(alloc, job, &bytes, out, err, watchers),
         Err(TakeError::ReadFault) => say(err, READ_FAILED.as_bytes(), Status::ReadFault),
         Err(TakeError::TooLong) => say(err, TOO_LONG.as_bytes(), Status::Refused),
         Err(TakeError::NoMemory) => say(err, OUT_OF_MEMORY.as_bytes(), Status::NoMemory),
@@ -111,10 +112,10 @@ fn answer_job<S: Source, O: Sink, E: Sink>(
     source: &mut S,
     out: &mut O,
     err: &mut E,
+    watchers: &mut Vec<Box<dyn Watch>>,
 ) -> Status
-    requires built { is_built job ≡ true }
     requires number { HasNumber job }
-    ensures answers { IfSome (taken_by job (S.left source.old)) (λ bytes. Answers job bytes result
+    ensures answers { IfSome (taken_by job (S.left source.old)) (λ bytes. Answers job (map (λ w. watcher w) watchers.old.items) bytes result
         (change (O.written out.old) (O.written out.new) (O.faults out.old) (O.faults out.new))
         (change (E.written err.old) (E.written err.new) (E.faults err.old) (E.faults err.new))) }
     ensures unread { IsSome (generated job) → source.new ≡ source.old }
@@ -131,13 +132,14 @@ fn answer_job<S: Source, O: Sink, E: Sink>(
     ensures rest { IsRestOf (S.left source.old) (S.left source.new) }
 {
     match job.generated() {
-        Some(_) => answer(alloc, job, b"", out, err),
-        None => answer_source(alloc, job, source, out, err),
+        Some(_) => answer(alloc, job, b"", out, err, watchers),
+        None => answer_source(alloc, job, source, out, err, watchers),
     }
 }
 
 /// Answers the words over the source: the report of the definitions on out, or one line on err.
-/// `words` are without the program's name.
+/// `words` are without the program's name. `list` tells each watcher of each direction of its page, and
+/// prints their lines where a tally is wanted; the watchers are dropped.
 ///
 /// Where a read or a write failed, the status may say so; a fault on err changes no status.
 pub fn isodist<'a, S: Source, O: Sink, E: Sink>(
@@ -146,6 +148,7 @@ pub fn isodist<'a, S: Source, O: Sink, E: Sink>(
     source: &mut S,
     out: &mut O,
     err: &mut E,
+    mut watchers: Vec<Box<dyn Watch>>,
 ) -> Status
     // Words that name no job are usage.
     ensures usage { IsNone (job_of (texts_of words.now)) → AnswersUsage result
@@ -153,27 +156,23 @@ pub fn isodist<'a, S: Source, O: Sink, E: Sink>(
         (change (E.written err.old) (E.written err.new) (E.faults err.old) (E.faults err.new)) }
     ensures usage_only { result ≡ Status.Usage → IsNone (job_of (texts_of words.now)) }
 
-    // A job that isn't built is refused. Without a job that is built and about the file of the source,
-    // the source is left unread.
-    ensures not_built { HasUnbuilt (texts_of words.now) → AnswersNotBuilt result
-        (change (O.written out.old) (O.written out.new) (O.faults out.old) (O.faults out.new))
-        (change (E.written err.old) (E.written err.new) (E.faults err.old) (E.faults err.new)) }
+    // Without a job that is about the file of the source, the source is left unread.
     ensures unread { IsNone (reading_job_of (texts_of words.now)) → source.new ≡ source.old }
     ensures no_read_fault { IsNone (reading_job_of (texts_of words.now)) → result ≢ Status.ReadFault }
-    ensures unwritten { IsNone (built_job_of (texts_of words.now)) → out.new ≡ out.old }
+    ensures unwritten { IsNone (job_of (texts_of words.now)) → out.new ≡ out.old }
 
-    // A job that is built is answered as the definitions say of all the bytes that it takes.
-    ensures job { IfSome (built_job_of (texts_of words.now)) (λ job. IfSome (taken_by job (S.left source.old)) (λ bytes. Answers job bytes result
+    // A job is answered as the definitions say of the watchers and of all the bytes that it takes.
+    ensures job { IfSome (job_of (texts_of words.now)) (λ job. IfSome (taken_by job (S.left source.old)) (λ bytes. Answers job (map (λ w. watcher w) watchers.items) bytes result
         (change (O.written out.old) (O.written out.new) (O.faults out.old) (O.faults out.new))
         (change (E.written err.old) (E.written err.new) (E.faults err.old) (E.faults err.new)))) }
 
     // Where the definitions give a report of few enough bytes, and no number passes its bound, these are
     // not refused; where they refuse the bytes, besides such a number, no report is written, whole or in
     // part.
-    ensures complete { IfSome (built_job_of (texts_of words.now)) (λ job. IfSome (taken_by job (S.left source.old)) (λ bytes.
-        length bytes ≤ MAX_BYTES → IsNarrow job bytes → (r : List ℕ) → IsOutcome job bytes (report r) → result ≢ Status.Refused)) }
-    ensures sound { IfSome (built_job_of (texts_of words.now)) (λ job. IfSome (taken_by job (S.left source.old)) (λ bytes.
-        (r : Refusal) → IsNotWide r → IsOutcome job bytes (refused r) → (result ≢ Status.Done) × (result ≢ Status.WriteFault))) }
+    ensures complete { IfSome (job_of (texts_of words.now)) (λ job. IfSome (taken_by job (S.left source.old)) (λ bytes.
+        length bytes ≤ MAX_BYTES → IsNarrow job (map (λ w. watcher w) watchers.items) bytes → (r : List ℕ) → HasOutcome job (map (λ w. watcher w) watchers.items) bytes (report r) → result ≢ Status.Refused)) }
+    ensures sound { IfSome (job_of (texts_of words.now)) (λ job. IfSome (taken_by job (S.left source.old)) (λ bytes.
+        (r : Refusal) → IsNotWide r → HasOutcome job (map (λ w. watcher w) watchers.items) bytes (refused r) → (result ≢ Status.Done) × (result ≢ Status.WriteFault))) }
 
     // Over all streams: out is as it was after a refusal and a read fault, and each fault has its count.
     ensures refused_out { result ≡ Status.Refused → out.new ≡ out.old }
@@ -189,11 +188,10 @@ pub fn isodist<'a, S: Source, O: Sink, E: Sink>(
     ensures rest { IsRestOf (S.left source.old) (S.left source.new) }
 {
     match read_words(alloc, words) {
-        Ok(Some(job)) if job.is_built() => {
+        Ok(Some(job)) => {
             law_of_outcomes();
-            answer_job(alloc, job, source, out, err)
+            answer_job(alloc, job, source, out, err, &mut watchers)
         }
-        Ok(Some(_)) => refuse(alloc, &Refusal::NotBuilt, err),
         Ok(None) => say(err, usage_line().as_bytes(), Status::Usage),
         Err(_) => say(err, OUT_OF_MEMORY.as_bytes(), Status::NoMemory),
     }

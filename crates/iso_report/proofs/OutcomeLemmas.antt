@@ -1,5 +1,5 @@
 -- The bytes of a source have one outcome.
-use Rattle.std.proofs.Common.{◌≡◌, ap, ◌∙◌, sym, subst, ℕ, ℤ, pos, ◌≤ℤ◌, ◌<ℤ◌, List, Option, Some, None, IfSome, unwrap_or, true, false, arith}
+use Rattle.std.proofs.Common.{◌≡◌, ap, ◌∙◌, sym, subst, ℕ, ℤ, pos, ◌≤ℤ◌, ◌<ℤ◌, List, Option, Some, None, IfSome, unwrap_or, Bool, true, false, inl, inr, arith}
 use Rattle.std.proofs.lemmas.Int.{ints}
 use Rattle.iso_text.specs.FileValue.{File}
 use Rattle.iso_text.specs.Ranges.{IsInRange}
@@ -8,16 +8,17 @@ use Rattle.super_group.specs.Quotient.{SupercellGroup, IsQuotient}
 use Rattle.iso_report.specs.declared.job.Job.{Job}
 use Rattle.iso_report.specs.declared.job.Job.TheVariants as job
 use Rattle.iso_report.specs.Check.{check_text}
-use Rattle.iso_report.specs.Outcome.{IsChecked, IsFound, AfterReps, AfterOrder, AfterPhases, AfterParent, AfterText, IsFoundIn, AreBytes}
+use Rattle.iso_report.specs.Outcome.{IsChecked, IsFound, AfterReps, AfterOrder, AfterPhases, AfterParent, AfterText, IsFoundIn, AreBytes, HasOutcome}
+use Rattle.iso_watch.specs.Watchers.{Watcher}
+use Rattle.list_report.specs.TellingLaws.{HasListTold}
 use Rattle.iso_report.specs.Jobs.{generated}
-use Rattle.iso_report.specs.OutcomeLaws.{HasOneOutcome}
 use Rattle.report_steps.specs.Contexts.{Parented, Divided}
-use Rattle.report_steps.specs.Finding.{report}
+use Rattle.report_steps.specs.declared.refusal.Refusal.{Refusal}
+use Rattle.report_steps.specs.Finding.{Finding, report}
 use Rattle.report_steps.specs.IrrepReport.{Facts, AreFacts}
 use Rattle.report_steps.specs.Stages.{RefusesText, IsRead, RefusesParent, IsParented, RefusesPhases, HavePhases, RefusesOrder, IsDivided, RefusesReps, AreWideReps, HaveReps, RefusesDimensions, AreWideInduced, HaveInduced}
-use Rattle.report_steps.specs.StepLaws.{IsSingle, IsSingleAt, single-at, FindsOneAt, After-single-at}
-use Rattle.report_steps.specs.Steps.{never}
-use Rattle.list_report.specs.Listings.{IsListFound}
+use Rattle.report_steps.specs.StepLaws.{IsSingle, IsSingleAt, single-at, FindsOneAt, After-single-at, IsNoWide}
+use Rattle.report_steps.specs.Steps.{After, never}
 use Rattle.mode_report.specs.Atoms.{RefusesAtoms}
 use Rattle.mode_report.specs.DirectionFound.{IsFoundAlong}
 use Rattle.amp_report.specs.AmpsFound.{AreAmpsFound}
@@ -51,7 +52,7 @@ pub record AreSettled : Type 0 where
   pub reps : (d : Divided) → IsQuotient d.quotient → IsSingleAt RefusesReps HaveReps d
   pub dimensions : (d : Divided) → IsQuotient d.quotient → IsSingleAt RefusesDimensions HaveInduced d
   pub facts : (q : SupercellGroup) → IsQuotient q → (irreps : List IrrepText) (fs gs : List Facts) → AreFacts q irreps fs → AreFacts q irreps gs → fs ≡ gs
-  pub list : (d : Divided) → IsQuotient d.quotient → (wanted : Option (List ℕ)) (after : ℕ) (count : Option ℕ) → FindsOneAt (IsListFound wanted after count) d
+  pub list : (d : Divided) → IsQuotient d.quotient → (wanted : Option (List ℕ)) (after : ℕ) (count : Option ℕ) (tally : Bool) (ws : List Watcher) → FindsOneAt (HasListTold wanted after count tally ws) d
   pub modes : (d : Divided) → IsQuotient d.quotient → IsSingleAt RefusesAtoms AreToldOf d
   pub along : (d : Divided) → IsQuotient d.quotient → (wanted : Option (List ℕ)) (number : ℕ) → FindsOneAt (IsFoundAlong wanted number) d
   pub tolerance : (bytes : List ℕ) (file : File) → IsRead bytes file → HasSmallTolerance file
@@ -64,7 +65,28 @@ pub record AreSettled : Type 0 where
   pub demo : (d : Divided) → IsQuotient d.quotient → (number : ℕ) → FindsOneAt (IsDemoFound number) d
   pub file : (number : ℕ) (s t : List ℕ) → IsDemoFile number s → IsDemoFile number t → s ≡ t
 
-module _ (s : AreSettled) (j : Job) where
+-- what a job finds behind the steps that all jobs share, however the watchers are left
+abbrev HasFound : Job → List Watcher → Divided → Finding → Type 0
+HasFound i ws d f = (new : List Watcher) × IsFound i ws new d f
+
+module _ (P Q : Divided → Finding → Type 0) (m : (d : Divided) (f : Finding) → P d f → Q d f) where
+  after-map : {A B : Type 0} (refuses : A → Refusal → Type 0) (wide : A → ℕ → Type 0) (passes : A → B → Type 0) (p q : B → Finding → Type 0) → ((b : B) (f : Finding) → p b f → q b f)
+      → (a : A) (f : Finding) → After refuses wide passes p a f → After refuses wide passes q a f
+  after-map refuses wide passes p q k a f (inl h) = inl h
+  after-map refuses wide passes p q k a f (inr (inl h)) = inr (inl h)
+  after-map refuses wide passes p q k a f (inr (inr (b, h, w))) = inr (inr (b, h, k b f w))
+
+  -- what is found in the bytes of a file, by what is found behind all steps
+  found-map : (bytes : List ℕ) (f : Finding) → IsFoundIn P bytes f → IsFoundIn Q bytes f
+  found-map =
+      after-map RefusesText never IsRead (AfterText P) (AfterText Q)
+      (after-map RefusesParent never IsParented (AfterParent P) (AfterParent Q)
+      (after-map RefusesPhases never HavePhases (AfterPhases P) (AfterPhases Q)
+      (after-map RefusesOrder never IsDivided (AfterOrder P) (AfterOrder Q)
+      (after-map RefusesReps AreWideReps HaveReps (AfterReps P) (AfterReps Q)
+      (after-map RefusesDimensions AreWideInduced HaveInduced P Q m)))))
+
+module _ (s : AreSettled) (j : Job) (ws : List Watcher) where
   module _ (d : Divided) (h : IsQuotient d.quotient) (small : HasSmallTolerance d.file) where
     checked-one : FindsOneAt IsChecked d
     checked-one f g (facts, a, e) (other, b, k) u v = e ∙ ap (λ (fs : List Facts). report (check_text d fs)) (s.facts d.quotient h d.file.irreps facts other a b) ∙ sym k
@@ -72,54 +94,58 @@ module _ (s : AreSettled) (j : Job) where
     modes-one : FindsOneAt AreModesFound d
     modes-one = After-single-at RefusesAtoms AreWideAll AreToldOf (IsReported d.file.format) d (s.modes d h) (λ told w f g e k u v. e ∙ sym k)
 
-    job-found : (i : Job) → FindsOneAt (IsFound i) d
-    job-found job.Check f g a b u v = checked-one f g a b u v
-    job-found (job.List wanted after count false) f g a b u v = s.list d h wanted after count f g a b u v
-    job-found (job.List wanted after count true) f g a b u v = absurd a
-    job-found (job.Modes None) f g a b u v = modes-one f g a b u v
-    job-found (job.Modes (Some (wanted, number))) f g a b u v = s.along d h wanted number f g a b u v
-    job-found job.Amps f g a b u v = s.amps d h small f g a b u v
-    job-found (job.Couple wanted other after count) f g a b u v = s.couple d h wanted other after count f g a b u v
-    job-found (job.Link wanted other) f g a b u v = s.link d h wanted other f g a b u v
-    job-found (job.Extra nature false) f g a b u v = s.extra nature d h f g a b u v
-    job-found (job.Extra nature true) f g a b u v = s.extra_amps nature d h f g a b u v
-    job-found job.Apart f g a b u v = s.apart d h f g a b u v
-    job-found (job.Demo number) f g a b u v = s.demo d h number f g a b u v
+    job-found : (i : Job) → FindsOneAt (HasFound i ws) d
+    job-found job.Check f g a b u v = checked-one f g a.1.0 b.1.0 u v
+    job-found (job.List wanted after count tally) f g a b u v = s.list d h wanted after count tally ws f g a b u v
+    job-found (job.Modes None) f g a b u v = modes-one f g a.1.0 b.1.0 u v
+    job-found (job.Modes (Some (wanted, number))) f g a b u v = s.along d h wanted number f g a.1.0 b.1.0 u v
+    job-found job.Amps f g a b u v = s.amps d h small f g a.1.0 b.1.0 u v
+    job-found (job.Couple wanted other after count) f g a b u v = s.couple d h wanted other after count f g a.1.0 b.1.0 u v
+    job-found (job.Link wanted other) f g a b u v = s.link d h wanted other f g a.1.0 b.1.0 u v
+    job-found (job.Extra nature false) f g a b u v = s.extra nature d h f g a.1.0 b.1.0 u v
+    job-found (job.Extra nature true) f g a b u v = s.extra_amps nature d h f g a.1.0 b.1.0 u v
+    job-found job.Apart f g a b u v = s.apart d h f g a.1.0 b.1.0 u v
+    job-found (job.Demo number) f g a b u v = s.demo d h number f g a.1.0 b.1.0 u v
 
-    induced-found : FindsOneAt (AfterReps j) d
+    induced-found : FindsOneAt (AfterReps (HasFound j ws)) d
     induced-found =
-        After-single-at RefusesDimensions AreWideInduced HaveInduced (IsFound j) d (s.dimensions d h)
-        (λ e w. let P : Divided → Type 0 = FindsOneAt (IsFound j) in subst P (sym w.1) (job-found j))
+        After-single-at RefusesDimensions AreWideInduced HaveInduced (HasFound j ws) d (s.dimensions d h)
+        (λ e w. let P : Divided → Type 0 = FindsOneAt (HasFound j ws) in subst P (sym w.1) (job-found j))
 
-    reps-found : FindsOneAt (AfterOrder j) d
+    reps-found : FindsOneAt (AfterOrder (HasFound j ws)) d
     reps-found =
-        After-single-at RefusesReps AreWideReps HaveReps (AfterReps j) d (s.reps d h)
-        (λ e w. let P : Divided → Type 0 = FindsOneAt (AfterReps j) in subst P (sym w.1) induced-found)
+        After-single-at RefusesReps AreWideReps HaveReps (AfterReps (HasFound j ws)) d (s.reps d h)
+        (λ e w. let P : Divided → Type 0 = FindsOneAt (AfterReps (HasFound j ws)) in subst P (sym w.1) induced-found)
 
-  order-found : (p : Parented) → HasSmallTolerance p.file → FindsOneAt (AfterPhases j) p
+  order-found : (p : Parented) → HasSmallTolerance p.file → FindsOneAt (AfterPhases (HasFound j ws)) p
   order-found p small =
-      After-single-at RefusesOrder never IsDivided (AfterOrder j) p (single-at RefusesOrder IsDivided s.order p)
+      After-single-at RefusesOrder never IsDivided (AfterOrder (HasFound j ws)) p (single-at RefusesOrder IsDivided s.order p)
       (λ d w. reps-found d w.quotient (subst HasSmallTolerance (sym w.file_is) small))
 
-  phases-found : (p : Parented) → HasSmallTolerance p.file → FindsOneAt (AfterParent j) p
+  phases-found : (p : Parented) → HasSmallTolerance p.file → FindsOneAt (AfterParent (HasFound j ws)) p
   phases-found p small =
-      After-single-at RefusesPhases never HavePhases (AfterPhases j) p (s.phases p)
-      (λ q w. let P : Parented → Type 0 = FindsOneAt (AfterPhases j) in subst P (sym w.1) (order-found p small))
+      After-single-at RefusesPhases never HavePhases (AfterPhases (HasFound j ws)) p (s.phases p)
+      (λ q w. let P : Parented → Type 0 = FindsOneAt (AfterPhases (HasFound j ws)) in subst P (sym w.1) (order-found p small))
 
-  parent-found : (file : File) → HasSmallTolerance file → FindsOneAt (AfterText j) file
+  parent-found : (file : File) → HasSmallTolerance file → FindsOneAt (AfterText (HasFound j ws)) file
   parent-found file small =
-      After-single-at RefusesParent never IsParented (AfterParent j) file (single-at RefusesParent IsParented s.parent file)
+      After-single-at RefusesParent never IsParented (AfterParent (HasFound j ws)) file (single-at RefusesParent IsParented s.parent file)
       (λ p w. phases-found p (subst HasSmallTolerance (sym w.4) small))
 
-  bytes-found : (bytes : List ℕ) → FindsOneAt (IsFoundIn j) bytes
-  bytes-found bytes = After-single-at RefusesText never IsRead (AfterText j) bytes (single-at RefusesText IsRead s.text bytes) (λ file w. parent-found file (s.tolerance bytes file w))
+  bytes-found : (bytes : List ℕ) → FindsOneAt (IsFoundIn (HasFound j ws)) bytes
+  bytes-found bytes =
+      After-single-at RefusesText never IsRead (AfterText (HasFound j ws)) bytes (single-at RefusesText IsRead s.text bytes) (λ file w. parent-found file (s.tolerance bytes file w))
 
   -- the bytes of the file that a job is about are one
   bytes-one : (number : Option ℕ) (source bytes other : List ℕ) → AreBytes number source bytes → AreBytes number source other → bytes ≡ other
   bytes-one None source bytes other a b = a ∙ sym b
   bytes-one (Some number) source bytes other a b = s.file number bytes other a b
 
-  pub outcome-one : HasOneOutcome j
-  outcome-one source f g (bytes, a, x) (other, b, y) u v =
-      let P : List ℕ → Type 0 = λ z. IsFoundIn j z g in
-      bytes-found bytes f g x (subst P (sym (bytes-one (generated j) source bytes other a b)) y) u v
+  -- however the watchers are left
+  left-so : (new : List Watcher) (bytes : List ℕ) (f : Finding) → IsFoundIn (IsFound j ws new) bytes f → IsFoundIn (HasFound j ws) bytes f
+  left-so new = found-map (IsFound j ws new) (HasFound j ws) (λ d f h. (new, h))
+
+  pub outcome-one : (source : List ℕ) (f g : Finding) → HasOutcome j ws source f → HasOutcome j ws source g → IsNoWide f → IsNoWide g → f ≡ g
+  outcome-one source f g (new, bytes, a, x, _) (old, other, b, y, _) u v =
+      let P : List ℕ → Type 0 = λ z. IsFoundIn (HasFound j ws) z g in
+      bytes-found bytes f g (left-so new bytes f x) (subst P (sym (bytes-one (generated j) source bytes other a b)) (left-so old other g y)) u v

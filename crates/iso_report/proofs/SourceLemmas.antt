@@ -2,31 +2,47 @@
 use Rattle.std.proofs.Common.{◌≡◌, refl, sym, subst, ℕ, ◌<◌, List, Option, Some, None, Result}
 use Rattle.std.proofs.lemmas.Option.{same_Some}
 use Rattle.demo_files.specs.Demo.{IsDemoFile}
-use Rattle.report_steps.specs.Finding.{Finding}
+use Rattle.iso_watch.specs.Watchers.{Watcher}
+use Rattle.report_steps.specs.Contexts.{Divided}
+use Rattle.report_steps.specs.Finding.{Finding, report, refused}
 use Rattle.iso_report.specs.declared.job.Job.{Job}
 use Rattle.iso_report.specs.declared.job.Job.TheVariants as job
 use Rattle.iso_report.specs.declared.run_error.RunError.{RunError}
-use Rattle.iso_report.specs.Endings.{Change, Ends}
+use Rattle.iso_report.specs.declared.run_error.RunError.TheVariants as run_error
+use Rattle.iso_report.specs.Endings.{Change, Left, Ends, left}
 use Rattle.iso_report.specs.Jobs.{HasNumber, generated}
-use Rattle.iso_report.specs.Outcome.{IsFoundIn, AreBytes, IsOutcome}
+use Rattle.iso_report.specs.Outcome.{IsFound, IsFoundIn, AreBytes, IsOutcome, IsUntold}
 use Rattle.iso_report.proofs.EndingLemmas.{ends-map}
 
 -- what is found in the generated file of a number
-abbrev pub IsFoundFor : Job → ℕ → Finding → Type 0
-IsFoundFor j number f = (bytes : List ℕ) × IsDemoFile number bytes × IsFoundIn j bytes f
+abbrev pub IsFoundFor : (Divided → Finding → Type 0) → ℕ → Finding → Type 0
+IsFoundFor next number f = (bytes : List ℕ) × IsDemoFile number bytes × IsFoundIn next bytes f
 
-module _ {A : Type 0} (j : Job) (out : Change) (r : Result A RunError) where
-  -- over the bytes of a generated file
-  pub file-ends : (number : ℕ) (bytes text : List ℕ) → bytes ≡ text → IsDemoFile number text → Ends (IsFoundIn j bytes) out r → Ends (IsFoundFor j number) out r
-  file-ends number bytes text e h w = ends-map (IsFoundIn j bytes) (IsFoundFor j number) (λ f x. (bytes, subst (IsDemoFile number) (sym e) h, x)) out r w
+-- over the bytes of a generated file
+pub file-ends : {A : Type 0} (next : Divided → Finding → Type 0) (l : Left) (r : Result A RunError) (number : ℕ) (bytes text : List ℕ) → bytes ≡ text → IsDemoFile number text → Ends (IsFoundIn next bytes) l r
+    → Ends (IsFoundFor next number) l r
+file-ends next l r number bytes text e h w = ends-map (IsFoundIn next bytes) (IsFoundFor next number) (λ f x. (bytes, subst (IsDemoFile number) (sym e) h, x)) l r w
+
+-- a refusal leaves the watchers as they were
+ends-untold : {A : Type 0} (P Q : Finding → Type 0) (l : Left) → ((f : Finding) → P f → IsUntold f l.old l.new → Q f) → (r : Result A RunError) → Ends P l r → Ends Q l r
+ends-untold P Q l m (Ok x) h = (h.0, m (report h.0) h.1 tt, h.2)
+ends-untold P Q l m (Err (run_error.Refused c)) h = (m (refused c) h.0 h.2, h.1, h.2)
+ends-untold P Q l m (Err run_error.WriteFault) h = (h.0, m (report h.0) h.1 tt, h.2, h.3)
+ends-untold P Q l m (Err run_error.NoMemory) (inl g) = inl g
+ends-untold P Q l m (Err run_error.NoMemory) (inr h) = inr (h.0, m (report h.0) h.1 tt, h.2)
+
+module _ {A : Type 0} (j : Job) (out : Change) (ws new : List Watcher) (r : Result A RunError) (source : List ℕ) where
+  abbrev next : Divided → Finding → Type 0
+  next = IsFound j ws new
 
   -- of a job that is about the file of the source
-  pub source-ends : (source : List ℕ) → None ≡ generated j → Ends (IsFoundIn j source) out r → Ends (IsOutcome j source) out r
-  source-ends source e w = ends-map (IsFoundIn j source) (IsOutcome j source) (λ f x. (source, subst (λ (n : Option ℕ). AreBytes n source source) e refl, x)) out r w
+  pub source-ends : None ≡ generated j → Ends (IsFoundIn next source) (left out ws new) r → Ends (IsOutcome j ws new source) (left out ws new) r
+  source-ends e w = ends-untold (IsFoundIn next source) (IsOutcome j ws new source) (left out ws new) (λ f x u. (source, subst (λ (n : Option ℕ). AreBytes n source source) e refl, x, u)) r w
 
   -- of a job that is about a generated file
-  pub generated-ends : (source : List ℕ) (number : ℕ) → Some number ≡ generated j → Ends (IsFoundFor j number) out r → Ends (IsOutcome j source) out r
-  generated-ends source number e w = ends-map (IsFoundFor j number) (IsOutcome j source) (λ f x. (x.0, subst (λ (n : Option ℕ). AreBytes n source x.0) e x.1, x.2)) out r w
+  pub generated-ends : (number : ℕ) → Some number ≡ generated j → Ends (IsFoundFor next number) (left out ws new) r → Ends (IsOutcome j ws new source) (left out ws new) r
+  generated-ends number e w =
+      ends-untold (IsFoundFor next number) (IsOutcome j ws new source) (left out ws new) (λ f x u. (x.0, subst (λ (n : Option ℕ). AreBytes n source x.0) e x.1, x.2, u)) r w
 
 -- there is a generated file of its number
 pub number-below : (j : Job) (number : ℕ) → HasNumber j → Some number ≡ generated j → number < 64

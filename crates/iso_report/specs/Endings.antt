@@ -1,12 +1,14 @@
--- How work on a file ends that finds one of some findings, and what it then leaves on the sink of its report.
+-- How work on a file ends that finds one of some findings, and what it then leaves of the sink of its report and of the watchers.
 --
 -- Change: a sink before and after a call; Grew, GrewByPrefix, HasFailed: what happened to it
--- IsDone next out, Fails next out e: the report of a finding is written, or not
--- Ends next out result: the one or the other
+-- IsDone next out, IsCutShort next out, IsBrokenOff next out: the report of a finding is written, or not
+-- Left: a sink, and watchers, before and after a call; IsUnheard left: no watcher was told
+-- Fails next left e: no report is written whole; Ends next left result: the one or the other
 -- IsPut text out result: a text is written, or not
-use Rattle.std.specs.Prelude.{◌⊎◌, ℕ, List, [], Option, Result, MatchResult}
+use Rattle.std.specs.Prelude.{◌≡◌, ◌⊎◌, ℕ, List, [], Option, Result, MatchResult}
 use Rattle.iso_text.specs.Counts.{HasRisen}
 use Rattle.iso_text.specs.Streams.{GrownBy, GrownByPrefix}
+use Rattle.iso_watch.specs.Watchers.{Watcher}
 use Rattle.iso_report.specs.declared.run_error.RunError.{RunError}
 use Rattle.iso_report.specs.declared.run_error.RunError.TheVariants as run_error
 use Rattle.report_steps.specs.Finding.{Finding, report, refused}
@@ -43,14 +45,27 @@ IsCutShort next out = Grew [] out ⊎ ((r : List ℕ) × next (report r) × Grew
 abbrev pub IsBrokenOff : (Finding → Type 0) → Change → Type 0
 IsBrokenOff next out = (r : List ℕ) × next (report r) × GrewByPrefix r out × HasFailed out
 
--- how the work may fail
-abbrev pub Fails : (Finding → Type 0) → Change → RunError → Type 0
-Fails next out (run_error.Refused r) = next (refused r) × Grew [] out
-Fails next out run_error.WriteFault = IsBrokenOff next out
-Fails next out run_error.NoMemory = IsCutShort next out
+-- a sink, and watchers, before and after a call
+pub record Left : Type 0 where
+  pub out : Change
+  pub old : List Watcher
+  pub new : List Watcher
 
-abbrev pub Ends : {A : Type 0} → (Finding → Type 0) → Change → Result A RunError → Type 0
-Ends next out result = MatchResult result (λ _. IsDone next out) (Fails next out)
+abbrev pub left : Change → List Watcher → List Watcher → Left
+left out old new = record { out = out; old = old; new = new }
+
+-- no watcher was told
+abbrev pub IsUnheard : Left → Type 0
+IsUnheard l = l.new ≡ l.old
+
+-- how the work may fail; after want of memory nothing was written and no watcher told, or a report was begun
+abbrev pub Fails : (Finding → Type 0) → Left → RunError → Type 0
+Fails next l (run_error.Refused r) = next (refused r) × Grew [] l.out × IsUnheard l
+Fails next l run_error.WriteFault = IsBrokenOff next l.out
+Fails next l run_error.NoMemory = (Grew [] l.out × IsUnheard l) ⊎ ((r : List ℕ) × next (report r) × GrewByPrefix r l.out)
+
+abbrev pub Ends : {A : Type 0} → (Finding → Type 0) → Left → Result A RunError → Type 0
+Ends next l result = MatchResult result (λ _. IsDone next l.out) (Fails next l)
 
 -- why a text was not written whole
 abbrev pub FailsToPut : List ℕ → Change → RunError → Type 0

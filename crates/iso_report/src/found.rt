@@ -1,10 +1,11 @@
 // What is found for a file's bytes, written where it is found.
-ghost use Rattle.std.specs.Prelude.{◌≡◌, ◌≤◌, IfOk, IsErrOf, Ok, List, ℕ};
+ghost use Rattle.std.specs.Prelude.{◌≡◌, ◌≤◌, [], map, IsErrOf};
+ghost use Rattle.std.specs.List.{concat};
 ghost use Rattle.iso_text.specs.Ranges.{IsInRange};
-ghost use Rattle.iso_report.specs.Endings.{Ends, IsPut, change};
+ghost use Rattle.iso_report.specs.Endings.{Ends, IsPut, change, left};
 ghost use Rattle.iso_report.specs.Outcome.{IsChecked};
 ghost use Rattle.report_steps.specs.HeldFiles.{AreInducedHeld};
-ghost use Rattle.list_report.specs.Listings.{IsListFound};
+ghost use Rattle.list_report.specs.Telling.{IsListTold};
 ghost use Rattle.mode_report.specs.DirectionFound.{IsFoundAlong};
 ghost use Rattle.mode_report.specs.ModesFound.{AreModesFound};
 ghost use Rattle.amp_report.specs.AmpsFound.{AreAmpsFound};
@@ -15,62 +16,71 @@ ghost use Rattle.extra_report.specs.ExtraAmpsFound.{AreExtraAmpsFound};
 ghost use Rattle.apart_report.specs.ApartFound.{AreApartFound};
 ghost use Rattle.demo_report.specs.DemoFound.{IsDemoFound};
 
-use crate::check::check_report;
+use crate::check::{CheckReport, law_of_check_pieces};
 use crate::run_error::RunError;
-use amp_report::{amps_found, amps_report};
-use apart_report::{apart_found, apart_report};
-use couple_report::{couple_found, couple_report, link_found, link_report};
-use demo_report::{demo_found, demo_report};
+use amp_report::{amps_found, law_of_amps_pieces};
+use apart_report::{apart_found, law_of_apart_pieces};
+use couple_report::{couple_found, law_of_couple_pieces, law_of_link_pieces, link_found};
+use demo_report::{demo_found, law_of_demo_pieces};
 use extra_modes::Nature;
-use extra_report::{extra_amps_found, extra_amps_report, extra_found, extra_report};
-use iso_text::{Name, NoMemory, Sink, Text, put_all};
-use list_report::{list_found, listed_text};
-use mode_report::{along_report, modes_along, modes_found, modes_text_of};
+use extra_report::{
+    ExtraReport, extra_amps_found, extra_found, law_of_extra_amps_pieces, law_of_extra_pieces,
+};
+use iso_text::{Name, Sink};
+use iso_watch::Watch;
+use list_report::{law_of_told_pieces, list_told};
+use mode_report::{
+    AlongReport, ModesReport, law_of_along_pieces, law_of_modes_pieces, modes_along, modes_found,
+};
+use report_buffer::{Report, ReportError, write_report};
 use report_steps::{InducedFile, Refusal, Step};
 use std::alloc::Global;
 
-// Writes a text, where there was memory for it.
-fn put_text<O: Sink>(text: Result<Text, NoMemory>, out: &mut O) -> Result<(), RunError>
-    ensures answer { (t : List ℕ) → IfOk text (λ x. x ≡ t) → IsPut t (change (O.written out.old) (O.written out.new) (O.faults out.old) (O.faults out.new)) result }
+// Writes a report.
+fn written<R: Report, O: Sink>(alloc: Global, report: &R, out: &mut O) -> Result<(), RunError>
+    requires { R.fits report.now }
+    ensures answer { IsPut (concat (R.pieces report.now)) (change (O.written out.old) (O.written out.new) (O.faults out.old) (O.faults out.new)) result }
     ensures untouched { (r : Refusal) → IsErrOf result (RunError.Refused r) → out.new ≡ out.old }
     ensures faults { O.faults out.old ≤ O.faults out.new }
 {
-    let Ok(text) = text else {
-        return Err(RunError::NoMemory);
-    };
-    match put_all(out, text.as_slice()) {
+    match write_report(alloc, report, out) {
         Ok(()) => Ok(()),
-        Err(_) => Err(RunError::WriteFault),
+        Err(ReportError::WriteFault) => Err(RunError::WriteFault),
+        Err(ReportError::NoMemory) => Err(RunError::NoMemory),
     }
 }
 
 /// Writes the parent group, its quotient and the irreps.
 pub fn found_checked<O: Sink>(alloc: Global, file: InducedFile, out: &mut O) -> Result<(), RunError>
     requires { AreInducedHeld file }
-    ensures answer { Ends (IsChecked file.divided) (change (O.written out.old) (O.written out.new) (O.faults out.old) (O.faults out.new)) result }
+    ensures answer { Ends (IsChecked file.divided) (left (change (O.written out.old) (O.written out.new) (O.faults out.old) (O.faults out.new)) [] []) result }
     ensures untouched { (r : Refusal) → IsErrOf result (RunError.Refused r) → out.new ≡ out.old }
     ensures faults { O.faults out.old ≤ O.faults out.new }
 {
-    put_text(check_report(alloc, &file), out)
+    law_of_check_pieces();
+    written(alloc, &CheckReport { file }, out)
 }
 
-/// Writes the listing of the irrep of a name, or of the first of the file where none is named; or says
-/// why there is none.
+/// Writes the listing of the irrep of a name, or of the first of the file where none is named, with the
+/// page that the watchers are told of, and their lines where a tally is wanted; or says why there is none.
 pub fn found_listing<O: Sink>(
     alloc: Global,
     file: InducedFile,
     wanted: Option<Name>,
     after: u64,
     count: Option<u64>,
+    tally: bool,
+    watchers: &mut [Box<dyn Watch>],
     out: &mut O,
 ) -> Result<(), RunError>
     requires { AreInducedHeld file }
-    ensures answer { Ends (IsListFound wanted after count file.divided) (change (O.written out.old) (O.written out.new) (O.faults out.old) (O.faults out.new)) result }
+    ensures answer { Ends (IsListTold wanted after count tally (map (λ w. watcher w) watchers.old) (map (λ w. watcher w) watchers.new) file.divided) (left (change (O.written out.old) (O.written out.new) (O.faults out.old) (O.faults out.new)) (map (λ w. watcher w) watchers.old) (map (λ w. watcher w) watchers.new)) result }
     ensures untouched { (r : Refusal) → IsErrOf result (RunError.Refused r) → out.new ≡ out.old }
     ensures faults { O.faults out.old ≤ O.faults out.new }
 {
-    match list_found(alloc, file, wanted, after, count) {
-        Ok(Step::Passed(listed)) => put_text(listed_text(alloc, &listed), out),
+    law_of_told_pieces();
+    match list_told(alloc, file, wanted, after, count, tally, watchers) {
+        Ok(Step::Passed(told)) => written(alloc, &told, out),
         Ok(Step::Refused(refusal)) => Err(RunError::Refused(refusal)),
         Err(_) => Err(RunError::NoMemory),
     }
@@ -80,12 +90,16 @@ pub fn found_listing<O: Sink>(
 pub fn found_modes<O: Sink>(alloc: Global, file: InducedFile, out: &mut O) -> Result<(), RunError>
     requires held { AreInducedHeld file }
     requires ranged { IsInRange file.divided.file }
-    ensures answer { Ends (AreModesFound file.divided) (change (O.written out.old) (O.written out.new) (O.faults out.old) (O.faults out.new)) result }
+    ensures answer { Ends (AreModesFound file.divided) (left (change (O.written out.old) (O.written out.new) (O.faults out.old) (O.faults out.new)) [] []) result }
     ensures untouched { (r : Refusal) → IsErrOf result (RunError.Refused r) → out.new ≡ out.old }
     ensures faults { O.faults out.old ≤ O.faults out.new }
 {
+    law_of_modes_pieces();
     match modes_found(alloc, &file) {
-        Ok(Step::Passed(modes)) => put_text(modes_text_of(alloc, &file, &modes), out),
+        Ok(Step::Passed(modes)) => match ModesReport::new(alloc, file, modes) {
+            Ok(report) => written(alloc, &report, out),
+            Err(_) => Err(RunError::NoMemory),
+        },
         Ok(Step::Refused(refusal)) => Err(RunError::Refused(refusal)),
         Err(_) => Err(RunError::NoMemory),
     }
@@ -102,12 +116,16 @@ pub fn found_along<O: Sink>(
 ) -> Result<(), RunError>
     requires held { AreInducedHeld file }
     requires ranged { IsInRange file.divided.file }
-    ensures answer { Ends (IsFoundAlong wanted number file.divided) (change (O.written out.old) (O.written out.new) (O.faults out.old) (O.faults out.new)) result }
+    ensures answer { Ends (IsFoundAlong wanted number file.divided) (left (change (O.written out.old) (O.written out.new) (O.faults out.old) (O.faults out.new)) [] []) result }
     ensures untouched { (r : Refusal) → IsErrOf result (RunError.Refused r) → out.new ≡ out.old }
     ensures faults { O.faults out.old ≤ O.faults out.new }
 {
+    law_of_along_pieces();
     match modes_along(alloc, file, wanted, number) {
-        Ok(Step::Passed(along)) => put_text(along_report(alloc, &along), out),
+        Ok(Step::Passed(along)) => match AlongReport::new(alloc, along) {
+            Ok(report) => written(alloc, &report, out),
+            Err(_) => Err(RunError::NoMemory),
+        },
         Ok(Step::Refused(refusal)) => Err(RunError::Refused(refusal)),
         Err(_) => Err(RunError::NoMemory),
     }
@@ -121,12 +139,13 @@ pub fn found_amplitudes<O: Sink>(
 ) -> Result<(), RunError>
     requires held { AreInducedHeld file }
     requires ranged { IsInRange file.divided.file }
-    ensures answer { Ends (AreAmpsFound file.divided) (change (O.written out.old) (O.written out.new) (O.faults out.old) (O.faults out.new)) result }
+    ensures answer { Ends (AreAmpsFound file.divided) (left (change (O.written out.old) (O.written out.new) (O.faults out.old) (O.faults out.new)) [] []) result }
     ensures untouched { (r : Refusal) → IsErrOf result (RunError.Refused r) → out.new ≡ out.old }
     ensures faults { O.faults out.old ≤ O.faults out.new }
 {
+    law_of_amps_pieces();
     match amps_found(alloc, file) {
-        Ok(Step::Passed(amplitudes)) => put_text(amps_report(alloc, &amplitudes), out),
+        Ok(Step::Passed(amplitudes)) => written(alloc, &amplitudes, out),
         Ok(Step::Refused(refusal)) => Err(RunError::Refused(refusal)),
         Err(_) => Err(RunError::NoMemory),
     }
@@ -144,12 +163,13 @@ pub fn found_couple<O: Sink>(
     out: &mut O,
 ) -> Result<(), RunError>
     requires { AreInducedHeld file }
-    ensures answer { Ends (IsCoupleFound wanted other after count file.divided) (change (O.written out.old) (O.written out.new) (O.faults out.old) (O.faults out.new)) result }
+    ensures answer { Ends (IsCoupleFound wanted other after count file.divided) (left (change (O.written out.old) (O.written out.new) (O.faults out.old) (O.faults out.new)) [] []) result }
     ensures untouched { (r : Refusal) → IsErrOf result (RunError.Refused r) → out.new ≡ out.old }
     ensures faults { O.faults out.old ≤ O.faults out.new }
 {
+    law_of_couple_pieces();
     match couple_found(alloc, file, wanted, other, after, count) {
-        Ok(Step::Passed(coupled)) => put_text(couple_report(alloc, &coupled), out),
+        Ok(Step::Passed(coupled)) => written(alloc, &coupled, out),
         Ok(Step::Refused(refusal)) => Err(RunError::Refused(refusal)),
         Err(_) => Err(RunError::NoMemory),
     }
@@ -165,12 +185,13 @@ pub fn found_link<O: Sink>(
     out: &mut O,
 ) -> Result<(), RunError>
     requires { AreInducedHeld file }
-    ensures answer { Ends (IsLinkFound wanted other file.divided) (change (O.written out.old) (O.written out.new) (O.faults out.old) (O.faults out.new)) result }
+    ensures answer { Ends (IsLinkFound wanted other file.divided) (left (change (O.written out.old) (O.written out.new) (O.faults out.old) (O.faults out.new)) [] []) result }
     ensures untouched { (r : Refusal) → IsErrOf result (RunError.Refused r) → out.new ≡ out.old }
     ensures faults { O.faults out.old ≤ O.faults out.new }
 {
+    law_of_link_pieces();
     match link_found(alloc, file, wanted, other) {
-        Ok(Step::Passed(linked)) => put_text(link_report(alloc, &linked), out),
+        Ok(Step::Passed(linked)) => written(alloc, &linked, out),
         Ok(Step::Refused(refusal)) => Err(RunError::Refused(refusal)),
         Err(_) => Err(RunError::NoMemory),
     }
@@ -186,12 +207,16 @@ pub fn found_extra<O: Sink>(
 ) -> Result<(), RunError>
     requires held { AreInducedHeld file }
     requires ranged { IsInRange file.divided.file }
-    ensures answer { Ends (AreExtraFound nature file.divided) (change (O.written out.old) (O.written out.new) (O.faults out.old) (O.faults out.new)) result }
+    ensures answer { Ends (AreExtraFound nature file.divided) (left (change (O.written out.old) (O.written out.new) (O.faults out.old) (O.faults out.new)) [] []) result }
     ensures untouched { (r : Refusal) → IsErrOf result (RunError.Refused r) → out.new ≡ out.old }
     ensures faults { O.faults out.old ≤ O.faults out.new }
 {
+    law_of_extra_pieces();
     match extra_found(alloc, file, nature) {
-        Ok(Step::Passed(extra)) => put_text(extra_report(alloc, &extra), out),
+        Ok(Step::Passed(extra)) => match ExtraReport::new(alloc, extra) {
+            Ok(report) => written(alloc, &report, out),
+            Err(_) => Err(RunError::NoMemory),
+        },
         Ok(Step::Refused(refusal)) => Err(RunError::Refused(refusal)),
         Err(_) => Err(RunError::NoMemory),
     }
@@ -207,12 +232,13 @@ pub fn found_extra_amps<O: Sink>(
 ) -> Result<(), RunError>
     requires held { AreInducedHeld file }
     requires ranged { IsInRange file.divided.file }
-    ensures answer { Ends (AreExtraAmpsFound nature file.divided) (change (O.written out.old) (O.written out.new) (O.faults out.old) (O.faults out.new)) result }
+    ensures answer { Ends (AreExtraAmpsFound nature file.divided) (left (change (O.written out.old) (O.written out.new) (O.faults out.old) (O.faults out.new)) [] []) result }
     ensures untouched { (r : Refusal) → IsErrOf result (RunError.Refused r) → out.new ≡ out.old }
     ensures faults { O.faults out.old ≤ O.faults out.new }
 {
+    law_of_extra_amps_pieces();
     match extra_amps_found(alloc, file, nature) {
-        Ok(Step::Passed(amplitudes)) => put_text(extra_amps_report(alloc, &amplitudes), out),
+        Ok(Step::Passed(amplitudes)) => written(alloc, &amplitudes, out),
         Ok(Step::Refused(refusal)) => Err(RunError::Refused(refusal)),
         Err(_) => Err(RunError::NoMemory),
     }
@@ -221,12 +247,13 @@ pub fn found_extra_amps<O: Sink>(
 /// Writes which irreps of the file are apart.
 pub fn found_apart<O: Sink>(alloc: Global, file: InducedFile, out: &mut O) -> Result<(), RunError>
     requires { AreInducedHeld file }
-    ensures answer { Ends (AreApartFound file.divided) (change (O.written out.old) (O.written out.new) (O.faults out.old) (O.faults out.new)) result }
+    ensures answer { Ends (AreApartFound file.divided) (left (change (O.written out.old) (O.written out.new) (O.faults out.old) (O.faults out.new)) [] []) result }
     ensures untouched { (r : Refusal) → IsErrOf result (RunError.Refused r) → out.new ≡ out.old }
     ensures faults { O.faults out.old ≤ O.faults out.new }
 {
+    law_of_apart_pieces();
     match apart_found(alloc, file) {
-        Ok(Step::Passed(pairs)) => put_text(apart_report(alloc, &pairs), out),
+        Ok(Step::Passed(pairs)) => written(alloc, &pairs, out),
         Ok(Step::Refused(refusal)) => Err(RunError::Refused(refusal)),
         Err(_) => Err(RunError::NoMemory),
     }
@@ -241,12 +268,13 @@ pub fn found_demo<O: Sink>(
 ) -> Result<(), RunError>
     requires held { AreInducedHeld file }
     requires ranged { IsInRange file.divided.file }
-    ensures answer { Ends (IsDemoFound number file.divided) (change (O.written out.old) (O.written out.new) (O.faults out.old) (O.faults out.new)) result }
+    ensures answer { Ends (IsDemoFound number file.divided) (left (change (O.written out.old) (O.written out.new) (O.faults out.old) (O.faults out.new)) [] []) result }
     ensures untouched { (r : Refusal) → IsErrOf result (RunError.Refused r) → out.new ≡ out.old }
     ensures faults { O.faults out.old ≤ O.faults out.new }
 {
+    law_of_demo_pieces();
     match demo_found(alloc, file, number) {
-        Ok(Step::Passed(demo)) => put_text(demo_report(alloc, &demo), out),
+        Ok(Step::Passed(demo)) => written(alloc, &demo, out),
         Ok(Step::Refused(refusal)) => Err(RunError::Refused(refusal)),
         Err(_) => Err(RunError::NoMemory),
     }

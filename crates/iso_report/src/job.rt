@@ -1,6 +1,6 @@
 // What the words of the command line ask for.
 ghost use Rattle.std.specs.Prelude.{◌≡◌};
-ghost use Rattle.iso_report.specs.Jobs.{is_built, generated};
+ghost use Rattle.iso_report.specs.Jobs.{generated};
 
 use extra_modes::Nature;
 use iso_text::Name;
@@ -55,23 +55,6 @@ pub enum Job {
 }
 
 impl Job {
-    /// Whether the job is built so far: all but `list` with a tally.
-    pub fn is_built(&self) -> bool
-        ensures value { result ≡ is_built self.now }
-    {
-        match self {
-            Job::Check => true,
-            Job::List { tally, .. } => !tally,
-            Job::Modes { .. } => true,
-            Job::Amps => true,
-            Job::Couple { .. } => true,
-            Job::Link { .. } => true,
-            Job::Extra { .. } => true,
-            Job::Apart => true,
-            Job::Demo { .. } => true,
-        }
-    }
-
     /// The number of the generated file that the job is about, none where it is about the file of the
     /// source.
     pub fn generated(&self) -> Option<u8>

@@ -9,18 +9,18 @@ use demo_files::law_of_demo_files;
 use demo_report::law_of_demo_found;
 use extra_report::{law_of_extra_amps_found, law_of_extra_found};
 use iso_text::law_of_ranges;
-use list_report::law_of_list;
+use list_report::law_of_list_told;
 use mode_report::{law_of_modes_along, law_of_modes_found};
 use report_steps::{law_of_irreps, law_of_steps};
 
-/// Each job finds at most one thing for the bytes of a source.
+/// Each job finds at most one thing for watchers and the bytes of a source.
 pub fn law_of_outcomes()
     ensures { (job : Job) → HasOneOutcome job }
 {
     law_of_ranges();
     law_of_steps();
     law_of_irreps();
-    law_of_list();
+    law_of_list_told();
     law_of_modes_found();
     law_of_modes_along();
     law_of_amps_found();

@@ -1,6 +1,7 @@
 // One case: a run of the program over streams in memory, and what it left.
 use iso_cli::isodist;
 use iso_text::{MemSink, MemSource, NoMemory, Text};
+use iso_watch::{Tally, Upto, Watch};
 use std::alloc::{AllocError, Global};
 
 /// Room for each report.
@@ -53,6 +54,24 @@ fn words_of<'a>(alloc: Global, line: &'a str) -> Result<Vec<&'a str>, AllocError
     Ok(words)
 }
 
+// Adds the watchers of a part: `tally` and `upto N`, with commas between them; by default one tally.
+fn add_watchers(
+    alloc: Global,
+    watchers: &mut Vec<Box<dyn Watch>>,
+    part: Option<&str>,
+) -> Result<(), AllocError> {
+    for name in part.unwrap_or("tally").split(',') {
+        match name.split_once(' ') {
+            Some(("upto", limit)) => {
+                let limit = limit.parse().unwrap_or(0);
+                watchers.push(Box::new(alloc, Upto::new(limit))?)?;
+            }
+            _ => watchers.push(Box::new(alloc, Tally::new())?)?,
+        }
+    }
+    Ok(())
+}
+
 /// What the program answers to a case.
 pub fn answer(alloc: Global, case: &str) -> Result<Text, NoMemory> {
     let (head, body) = case.split_once('\n').unwrap_or((case, ""));
@@ -61,6 +80,8 @@ pub fn answer(alloc: Global, case: &str) -> Result<Text, NoMemory> {
     let mut source = source_of(alloc, parts.next(), body)?;
     let mut out = sink_of(alloc, parts.next())?;
     let mut err = sink_of(alloc, parts.next())?;
-    let status = isodist(alloc, &words, &mut source, &mut out, &mut err);
+    let mut watchers: Vec<Box<dyn Watch>> = Vec::new(alloc);
+    add_watchers(alloc, &mut watchers, parts.next())?;
+    let status = isodist(alloc, &words, &mut source, &mut out, &mut err, watchers);
     print(alloc, head, status.code(), out.as_slice(), err.as_slice())
 }

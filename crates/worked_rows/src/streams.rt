@@ -1,6 +1,7 @@
 // The two lengths at the limit, and a sink that fails, over sources that never do.
 use iso_cli::{Status, isodist};
 use iso_text::{CalmSource, MAX_BYTES, MemSink, NoMemory};
+use iso_watch::Watch;
 use std::alloc::Global;
 use std::test::Fail;
 
@@ -39,7 +40,15 @@ fn ends(
     let mut source = CalmSource::new(bytes, 4096);
     let mut written = sink_of(alloc, pieces)?;
     let mut said = sink_of(alloc, (4096, 0))?;
-    let ended = isodist(alloc, &["check"], &mut source, &mut written, &mut said);
+    let watchers: Vec<Box<dyn Watch>> = Vec::new(alloc);
+    let ended = isodist(
+        alloc,
+        &["check"],
+        &mut source,
+        &mut written,
+        &mut said,
+        watchers,
+    );
     Ok(ended == status && are_left(&written, &said, out, err))
 }
 

@@ -1,16 +1,19 @@
+use Rattle.std.proofs.Common.{refl}
+use Rattle.std.specs.List.{concat}
 use Rattle.extra_report.specs.FoundExtraAmps.{extra_amps_of}
+use Rattle.extra_report.specs.ExtraAmpsPieces.{extra_amps_pieces}
 use Rattle.extra_report.specs.ExtraAmpsFound.{AreExtraAmpsFound}
-use Rattle.iso_report.proofs.EndingLemmas.{grown_by_nothing, ends-put}
+use Rattle.iso_report.proofs.EndingLemmas.{grown_by_nothing, ends-written}
 use Rattle.iso_report.proofs.found.found_extra_amps.Goals as goal
 
-pub extra_amps_report-requires : goal.extra_amps_report-requires
-extra_amps_report-requires g c = (rw c.in-Ok-Passed.field-0-is at c.in-Ok-Passed.ensures).1
+pub written-requires : goal.written-requires
+written-requires g c = (rw c.in-Ok-Passed.field-0-is at c.in-Ok-Passed.ensures).1
 
 pub returns-in-Ok-Passed-clause-answer : goal.returns-in-Ok-Passed-clause-answer
 returns-in-Ok-Passed-clause-answer g c =
+    let x = c.in-Ok-Passed.amplitudes in
     let found = (rw c.in-Ok-Passed.field-0-is at c.in-Ok-Passed.ensures).0 in
-    let text = extra_amps_of c.in-Ok-Passed.amplitudes in
-    ends-put (AreExtraAmpsFound c.args.nature c.args.file.divided) text _ c.put_text.result found (c.put_text.ensures.answer text c.extra_amps_report.ensures)
+    ends-written (AreExtraAmpsFound c.args.nature c.args.file.divided) (extra_amps_of x) (concat (extra_amps_pieces x)) _ c.written.result found (c.law_of_extra_amps_pieces.ensures x) c.written.ensures.answer
 
 pub returns-in-Ok-Refused-clause-answer : goal.returns-in-Ok-Refused-clause-answer
-returns-in-Ok-Refused-clause-answer g c = ((rw c.in-Ok-Refused.field-0-is at c.in-Ok-Refused.ensures).0, grown_by_nothing (g.O.Sink.written c.args.out.now))
+returns-in-Ok-Refused-clause-answer g c = ((rw c.in-Ok-Refused.field-0-is at c.in-Ok-Refused.ensures).0, grown_by_nothing (g.O.Sink.written c.args.out.now), refl)

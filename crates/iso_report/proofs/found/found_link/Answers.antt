@@ -1,16 +1,19 @@
+use Rattle.std.proofs.Common.{refl}
+use Rattle.std.specs.List.{concat}
 use Rattle.couple_report.specs.FoundLink.{link_of}
+use Rattle.couple_report.specs.LinkPieces.{link_pieces}
 use Rattle.couple_report.specs.LinkFound.{IsLinkFound}
-use Rattle.iso_report.proofs.EndingLemmas.{grown_by_nothing, ends-put}
+use Rattle.iso_report.proofs.EndingLemmas.{grown_by_nothing, ends-written}
 use Rattle.iso_report.proofs.found.found_link.Goals as goal
 
-pub link_report-requires : goal.link_report-requires
-link_report-requires g c = (rw c.in-Ok-Passed.field-0-is at c.in-Ok-Passed.ensures).1
+pub written-requires : goal.written-requires
+written-requires g c = (rw c.in-Ok-Passed.field-0-is at c.in-Ok-Passed.ensures).1
 
 pub returns-in-Ok-Passed-clause-answer : goal.returns-in-Ok-Passed-clause-answer
 returns-in-Ok-Passed-clause-answer g c =
+    let x = c.in-Ok-Passed.linked in
     let found = (rw c.in-Ok-Passed.field-0-is at c.in-Ok-Passed.ensures).0 in
-    let text = link_of c.in-Ok-Passed.linked in
-    ends-put (IsLinkFound c.args.wanted c.args.other c.args.file.divided) text _ c.put_text.result found (c.put_text.ensures.answer text c.link_report.ensures)
+    ends-written (IsLinkFound c.args.wanted c.args.other c.args.file.divided) (link_of x) (concat (link_pieces x)) _ c.written.result found (c.law_of_link_pieces.ensures x) c.written.ensures.answer
 
 pub returns-in-Ok-Refused-clause-answer : goal.returns-in-Ok-Refused-clause-answer
-returns-in-Ok-Refused-clause-answer g c = ((rw c.in-Ok-Refused.field-0-is at c.in-Ok-Refused.ensures).0, grown_by_nothing (g.O.Sink.written c.args.out.now))
+returns-in-Ok-Refused-clause-answer g c = ((rw c.in-Ok-Refused.field-0-is at c.in-Ok-Refused.ensures).0, grown_by_nothing (g.O.Sink.written c.args.out.now), refl)

@@ -1,16 +1,23 @@
-use Rattle.list_report.specs.FoundListing.{listed_text}
-use Rattle.list_report.specs.Listings.{IsListFound}
-use Rattle.iso_report.proofs.EndingLemmas.{grown_by_nothing, ends-put}
+use Rattle.std.proofs.Common.{refl}
+use Rattle.std.specs.List.{concat}
+use Rattle.list_report.specs.ToldPieces.{told_text, told_pieces}
+use Rattle.iso_report.proofs.EndingLemmas.{grown_by_nothing, ends-written}
+use Rattle.iso_report.proofs.FoundLemmas.{memory-left}
 use Rattle.iso_report.proofs.found.found_listing.Goals as goal
 
-pub listed_text-requires : goal.listed_text-requires
-listed_text-requires g c = (rw c.in-Ok-Passed.field-0-is at c.in-Ok-Passed.ensures).1
+pub written-requires : goal.written-requires
+written-requires g c = (rw c.in-Ok-Passed.field-0-is at c.in-Ok-Passed.ensures.found).1
 
 pub returns-in-Ok-Passed-clause-answer : goal.returns-in-Ok-Passed-clause-answer
 returns-in-Ok-Passed-clause-answer g c =
-    let found = (rw c.in-Ok-Passed.field-0-is at c.in-Ok-Passed.ensures).0 in
-    let text = listed_text c.in-Ok-Passed.listed in
-    ends-put (IsListFound c.args.wanted c.args.after c.args.count c.args.file.divided) text _ c.put_text.result found (c.put_text.ensures.answer text c.listed_text.ensures)
+    let x = c.in-Ok-Passed.told in
+    let found = (rw c.in-Ok-Passed.field-0-is at c.in-Ok-Passed.ensures.found).0 in
+    ends-written _ (told_text x) (concat (told_pieces x)) _ c.written.result found (c.law_of_told_pieces.ensures x) c.written.ensures.answer
 
 pub returns-in-Ok-Refused-clause-answer : goal.returns-in-Ok-Refused-clause-answer
-returns-in-Ok-Refused-clause-answer g c = ((rw c.in-Ok-Refused.field-0-is at c.in-Ok-Refused.ensures).0, grown_by_nothing (g.O.Sink.written c.args.out.now))
+returns-in-Ok-Refused-clause-answer g c =
+    let found = (rw c.in-Ok-Refused.field-0-is at c.in-Ok-Refused.ensures.found).0 in
+    (found, grown_by_nothing (g.O.Sink.written c.args.out.now), found.1)
+
+pub returns-in-Err-clause-answer : goal.returns-in-Err-clause-answer
+returns-in-Err-clause-answer g c = memory-left _ _ _ (g.O.Sink.written c.args.out.now) _ c.in-Err.ensures.memory

@@ -6,7 +6,7 @@ pub returns : goal.returns
 returns c =
     let s = c.law_of_steps.ensures in
     let i = c.law_of_irreps.ensures in
-    outcome-one (record {
+    λ j ws. outcome-one (record {
       text = s.text;
       parent = s.parent;
       phases = s.phases;
@@ -14,7 +14,7 @@ returns c =
       reps = s.reps;
       dimensions = s.dimensions;
       facts = i.facts;
-      list = c.law_of_list.ensures;
+      list = c.law_of_list_told.ensures;
       modes = c.law_of_modes_found.ensures;
       along = c.law_of_modes_along.ensures;
       tolerance = λ bytes file h. small-tolerance file (c.law_of_ranges.ensures.files (lines_of bytes) file h);
@@ -26,4 +26,4 @@ returns c =
       apart = c.law_of_apart_found.ensures;
       demo = c.law_of_demo_found.ensures;
       file = c.law_of_demo_files.ensures.one;
-    })
+    }) j ws
