@@ -40,7 +40,7 @@ refusal_by (match_error.OffGrid n) = refusal.OffGrid n
 refusal_by (match_error.Unmatched n) = refusal.Unmatched n
 refusal_by (match_error.Ambiguous n) = refusal.Ambiguous n
 refusal_by (match_error.MissingAtom label place) = refusal.MissingAtom label place
-refusal_by match_error.NoMemory = refusal.NotBuilt
+refusal_by match_error.NoMemory = refusal.Wide 0
 
 -- the cause that a refusal tells
 record IsCauseOf (m : Matching) (r : Refusal) : Type 0 where

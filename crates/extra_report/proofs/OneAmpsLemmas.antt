@@ -47,7 +47,7 @@ AreAmountsApart = (g : Naming) (each : ℕ) (v : AmountsView) (e : ExtraError) �
 abbrev refusal_by : ExtraError → Refusal
 refusal_by (extra_error.Unmatched n) = refusal.Unmatched n
 refusal_by (extra_error.Ambiguous n) = refusal.Ambiguous n
-refusal_by _ = refusal.NotBuilt
+refusal_by _ = refusal.Wide 0
 
 -- the cause that a refusal tells
 record IsCauseOf (g : Naming) (r : Refusal) : Type 0 where

@@ -62,7 +62,6 @@ refusal_text (refusal.MissingAtom label place) = codes "no listed atom for " ++ 
 refusal_text (refusal.TooManyCoupled name other n) = irreps_words name other (codes ": real dimension ") ++ decimal n ++ codes " is past 24"
 refusal_text (refusal.CoupledSubspaces name other limit) = irreps_words name other (codes ": more than ") ++ decimal limit ++ codes " fixed subspaces"
 refusal_text (refusal.Wide family) = codes "number past 126 bits in family " ++ decimal family
-refusal_text refusal.NotBuilt = codes "not built"
 
 -- the line of a refusal
 abbrev pub line_of : Refusal → List ℕ

@@ -77,8 +77,6 @@ pub enum Refusal {
     CoupledSubspaces(Name, Name, u32),
     /// A number of this family of numbers passes 126 bits.
     Wide(u8),
-    /// The words or the file are beyond what is built so far.
-    NotBuilt,
 }
 
 // The name of an irrep, and what is wrong there.
@@ -335,7 +333,6 @@ fn text_of_refusal(alloc: Global, refusal: &Refusal) -> Result<Text, NoMemory>
             coupled_subspaces_text(alloc, name, other, *limit)
         }
         Refusal::Wide(family) => wide_text(alloc, *family),
-        Refusal::NotBuilt => plain_text(alloc, b"not built"),
     }
 }
 
