@@ -41,6 +41,7 @@ pub fn page_piece(
     requires place { number < length (page after count (directions_of k24_laws exact24 listing.now)) }
     ensures { IfOk result (λ text. slice_get (page_pieces quotient.now dim after count (directions_of k24_laws exact24 listing.now)) number ≡ Some text) }
 {
+    let _len = listing.len();
     let (first, _) = listing.page(after, count);
     let place = first + number;
     let mut text = Text::new(alloc);

@@ -15,7 +15,7 @@ returns c =
     let f = direction_text c.args.quotient.now c.args.dim in
     let g = direction_of k24_laws exact24 in
     let body = flat_map f (page c.args.after c.args.count (directions_of k24_laws exact24 ds)) in
-    let total = c.len.ensures ∙ sym (length-map ds g) in
+    let total = c.len.ensures.value ∙ sym (length-map ds g) in
     let order = c.order-order.ensures.value in
     c.in_ok-push_page.ensures ∙ ap (λ (t : List ℕ). t ++ body) c.in_ok-text.ensures
     ∙ head-behind (codes "isodist " ++ decimal c.args.format ++ codes " list")
