@@ -1,5 +1,5 @@
 -- What is found of a listing that watchers are told of.
-use Rattle.std.proofs.Common.{◌≡◌, refl, sym, ap, ◌∙◌, subst, ◌⊎◌, inl, inr, ℕ, ◌+◌, ◌-◌, ◌<◌, ◌≤◌, Bool, List, [], ◌∷◌, ◌++◌, map, take, drop, slice_get, Option, Some, None, append_assoc, arith}
+use Rattle.std.proofs.Common.{◌≡◌, refl, sym, ap, ◌∙◌, subst, ◌⊎◌, inl, inr, ℕ, ◌+◌, ◌-◌, ◌/◌, ◌<◌, ◌≤◌, Bool, List, [], ◌∷◌, ◌++◌, map, take, drop, slice_get, Option, Some, None, append_assoc, arith}
 use Rattle.std.specs.Prelude.{codes, decimal, length, flat_map}
 use Rattle.std.specs.List.{concat, enumerate_from}
 use Rattle.std.proofs.lemmas.List.{append-nil, length-drop, length-take, length-map}
@@ -34,7 +34,7 @@ use Rattle.list_report.specs.Telling.{notice_of, IsTold}
 use Rattle.list_report.specs.ToldPieces.{told_text, told_head, told_pieces}
 use Rattle.list_report.specs.declared.listed.ListedIrrep.{ListedIrrep}
 use Rattle.list_report.specs.declared.told.ToldListing.{ToldListing}
-use Rattle.list_report.proofs.ListReportLemmas.{head-behind, page-more}
+use Rattle.list_report.proofs.ListReportLemmas.{head-behind, page-more, rows-length}
 
 -- another finding of what passes
 after-moved : {A B : Type 0} (refuses : A → Refusal → Type 0) (wide : A → ℕ → Type 0) (passes : A → B → Type 0) (next other : B → Finding → Type 0) (a : A) (f g : Finding)
@@ -89,6 +89,14 @@ told-joined t =
     ∙ ap (λ x. x ++ t.tail)
     (head-behind (codes "isodist " ++ decimal l.format ++ codes " list") (codes "irrep " ++ l.name ++ codes " dim " ++ decimal l.dim ++ codes " order " ++ decimal (order_of l.quotient))
     (codes "total " ++ decimal (length ds)) body)
+
+-- the notice of a direction, by its numbers
+pub notice-made : (q : SupercellGroup) (dim number n o w : ℕ) (d e : DirectionView K24) → d ≡ e → d.equations.width ≡ dim → n ≡ d.equations.width - length d.equations.rows → o ≡ length d.stabiliser → w ≡ order_of q
+    → ◌≡◌ {A = Notice} (record { number = number; dim = n; order = o; index = w / o }) (notice_of q dim (number, direction_of k24_laws exact24 e))
+notice-made q dim number n o w d e same width a b c =
+    let m : n ≡ dim - length (direction_of k24_laws exact24 d).equations = a ∙ (λ j. width j - sym (rows-length k24_laws exact24 d.equations.rows) j) in
+    let made : ℕ → ℕ → ℕ → Notice = λ x y z. record { number = number; dim = x; order = y; index = z / y } in
+    (λ j. made (m j) (b j) (c j)) ∙ ap (λ x. notice_of q dim (number, direction_of k24_laws exact24 x)) same
 
 -- one notice more
 pub notices-more : (q : SupercellGroup) (dim first i : ℕ) (ds : List (DirectionView K24)) (d : DirectionView K24) → first ≤ i → slice_get ds i ≡ Some d

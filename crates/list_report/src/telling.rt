@@ -54,8 +54,9 @@ fn notices_between(
 {
     let mut notices = Vec::new(alloc);
     for i in first..last {
-        if notices.push(notice_at(listed, i)).is_err() {
-            return Err(NoMemory);
+        match notices.push(notice_at(listed, i)) {
+            Ok(()) => {}
+            Err(_) => return Err(NoMemory),
         }
     }
     Ok(notices)

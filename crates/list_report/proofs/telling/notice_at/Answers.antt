@@ -1,7 +1,14 @@
-use Rattle.std.proofs.Common.{◌≡◌, ◌<◌, ◌≤◌, length, arith}
+use Rattle.std.proofs.Common.{◌≡◌, ◌+◌, ◌<◌, ◌≤◌, length, arith}
 use Rattle.super_group.specs.Quotient.{order_of}
 use Rattle.list_report.proofs.ListReportLemmas.{of-all, same-some}
+use Rattle.list_report.proofs.TellingLemmas.{notice-made}
 use Rattle.list_report.proofs.telling.notice_at.Goals as goal
+
+pub overflow_cast-result-2 : goal.overflow_cast-result-2
+overflow_cast-result-2 c =
+    let l = c.args.listed.now in
+    let width = of-all (λ d. d.equations.width ≡ l.dim) l.listing c.args.i c.get-direction.result.now c.requires.held.reportable.widths c.get-direction.ensures in
+    omega (arith, width, c.requires.held.few, c.dim.ensures)
 
 pub overflow_cast-result-3 : goal.overflow_cast-result-3
 overflow_cast-result-3 c =
@@ -15,5 +22,8 @@ nonzero_div-result c =
 
 pub returns : goal.returns
 returns c d e =
-    let same = same-some _ c.get-direction.result.now d c.get-direction.ensures e in
-    ?
+    let l = c.args.listed.now in
+    let seen = c.get-direction.result.now in
+    let same = same-some _ seen d c.get-direction.ensures e in
+    let width = of-all (λ x. x.equations.width ≡ l.dim) l.listing c.args.i seen c.requires.held.reportable.widths c.get-direction.ensures in
+    notice-made l.quotient l.dim (c.args.i + 1) c.dim.result c.order-order.result c.order-whole.result seen d same width c.dim.ensures c.order-order.ensures c.order-whole.ensures.value
