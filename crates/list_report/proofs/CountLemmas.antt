@@ -1,5 +1,5 @@
 -- How many directions a listing has, and how many elements a stabiliser.
-use Rattle.std.proofs.Common.{◌≡◌, ◌⊎◌, ◌↔◌, inl, inr, refl, sym, ap, ◌∙◌, subst, ℕ, zero, suc, ◌+◌, ◌-◌, ◌<◌, ◌≤◌, List, [], ◌∷◌, length, get_or, slice_get, Some, Contains, arith}
+use Rattle.std.proofs.Common.{◌≡◌, ◌⊎◌, inl, inr, refl, sym, ap, ◌∙◌, subst, ℕ, zero, suc, ◌-◌, ◌<◌, ◌≤◌, List, [], ◌∷◌, length, get_or, Contains, arith}
 use Rattle.std.proofs.lemmas.Bool.{cases_order}
 use Rattle.std.proofs.lemmas.Option.{slice_get-get_or}
 use Rattle.algebra.specs.NumberedGroup.{AllBelow}
@@ -12,9 +12,8 @@ use Rattle.lin_alg.specs.Fixed.{Fix, IsFixedByAll}
 use Rattle.lin_alg.specs.Spans.{AreSame}
 use Rattle.fix_lattice.specs.Lattice.{AreMoreFixes}
 use Rattle.class_list.specs.declared.order.Order.{Order}
-use Rattle.std.specs.declared.cmp.Ordering.{Ordering}
-use Rattle.class_list.specs.Directions.{Direction, IsListing, IsDirection, IsOfClass}
-use Rattle.class_list.specs.Stabilisers.{IsStabiliserOf, conjugate}
+use Rattle.class_list.specs.Directions.{Direction, IsListing, IsOfClass}
+use Rattle.class_list.specs.Stabilisers.{conjugate}
 
 -- each number of a rising list is at least its place
 rising-at : (n : ℕ) (P : ℕ → Type 0) (xs : List ℕ) → IsRisingListOf n P xs → (i : ℕ) → i < length xs → i ≤ get_or xs i 0

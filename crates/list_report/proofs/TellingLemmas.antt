@@ -1,5 +1,5 @@
 -- What is found of a listing that watchers are told of.
-use Rattle.std.proofs.Common.{◌≡◌, refl, sym, ap, ◌∙◌, subst, ◌⊎◌, inl, inr, ℕ, ◌+◌, ◌-◌, ◌/◌, ◌<◌, ◌≤◌, Bool, List, [], ◌∷◌, ◌++◌, map, take, drop, slice_get, Option, Some, None, append_assoc, arith}
+use Rattle.std.proofs.Common.{◌≡◌, refl, sym, ap, ◌∙◌, subst, ◌⊎◌, inl, inr, ℕ, ◌+◌, ◌-◌, ◌/◌, ◌<◌, ◌≤◌, Bool, List, [], ◌∷◌, ◌++◌, map, take, drop, slice_get, Option, Some, None, Result, Ok, Err, OnErr, append_assoc, arith}
 use Rattle.std.specs.Prelude.{codes, decimal, length, flat_map}
 use Rattle.std.specs.List.{concat, enumerate_from}
 use Rattle.std.proofs.lemmas.List.{append-nil, length-drop, length-take, length-map}
@@ -10,13 +10,14 @@ use Rattle.iso_watch.specs.declared.notice.Notice.{Notice}
 use Rattle.cyclo24.specs.declared.k24.K24.{K24}
 use Rattle.cyclo24.specs.K24.{exact24}
 use Rattle.cyclo24.specs.ExactK24.{k24_laws}
-use Rattle.iso_watch.specs.Watchers.{Watcher}
+use Rattle.iso_watch.specs.Watchers.{Watcher, Told, EndsAfter}
 use Rattle.class_list.specs.Pages.{page, directions_at}
 use Rattle.class_list.specs.Seen.{DirectionView, direction_of, directions_of}
 use Rattle.super_group.specs.Quotient.{SupercellGroup, order_of}
 use Rattle.report_buffer.specs.PieceLaws.{made-joined}
 use Rattle.report_steps.specs.Contexts.{Divided}
 use Rattle.report_steps.specs.Finding.{Finding, report, refused}
+use Rattle.report_steps.specs.FoundBy.{FindsBy}
 use Rattle.report_steps.specs.Steps.{After, never}
 use Rattle.report_steps.specs.declared.refusal.Refusal.{Refusal}
 use Rattle.report_steps.specs.declared.refusal.Refusal.TheVariants as refusal
@@ -24,17 +25,22 @@ use Rattle.report_steps.specs.declared.step.Step.TheVariants as step
 use Rattle.list_report.specs.Choice.{RefusesChoice, IsChosen}
 use Rattle.list_report.specs.Closing.{RefusesSubspaces, AreWideSubspaces, AreFew, RefusesNone, AreWideClasses, IsListed}
 use Rattle.list_report.specs.Contexts.{Listed}
-use Rattle.list_report.specs.FoundListing.{listed_text, IsTheOne}
+use Rattle.list_report.specs.FoundListing.{listed_text, IsTheOne, FindsListing}
 use Rattle.list_report.specs.HeldListings.{listed_in}
 use Rattle.list_report.specs.Listings.{AfterClosing, AfterForm, AfterChoice, IsListedThen}
 use Rattle.list_report.specs.ListReport.{direction_text}
 use Rattle.list_report.specs.PagePieces.{page_pieces}
 use Rattle.list_report.specs.RealForms.{RefusesForm, IsWideFormOf, IsFormed}
-use Rattle.list_report.specs.Telling.{notice_of, IsTold}
-use Rattle.list_report.specs.ToldPieces.{told_text, told_head, told_pieces}
+use Rattle.list_report.specs.Telling.{notice_of, page_notices, told_report, IsTold, IsUntold, IsListTold}
+use Rattle.list_report.specs.ToldPieces.{told_text, IsToldHeld, told_head, told_pieces}
 use Rattle.list_report.specs.declared.listed.ListedIrrep.{ListedIrrep}
 use Rattle.list_report.specs.declared.told.ToldListing.{ToldListing}
 use Rattle.list_report.proofs.ListReportLemmas.{head-behind, page-more, rows-length}
+
+-- an error's fact, of any answer
+pub on-err : {T E : Type 0} (r : Result T E) (P : Type 0) → P → OnErr r P
+on-err (Ok x) P p = tt
+on-err (Err e) P p = p
 
 -- another finding of what passes
 after-moved : {A B : Type 0} (refuses : A → Refusal → Type 0) (wide : A → ℕ → Type 0) (passes : A → B → Type 0) (next other : B → Finding → Type 0) (a : A) (f g : Finding)
@@ -74,6 +80,43 @@ pub told-refused : (wanted : Option (List ℕ)) (after : ℕ) (count : Option �
     → IsListedThen wanted (IsTheOne after count (step.Refused r)) d (refused r) → IsListedThen wanted (IsTold after count tally ws new) d (refused r)
 told-refused wanted after count tally ws new d r found =
     listed-moved wanted (IsTheOne after count (step.Refused r)) (IsTold after count tally ws new) d (refused r) (refused r) (λ q e. e) (λ m none. absurd none) found
+
+-- the finding of a told page is a report, which leaves no watcher untold
+untold : (after : ℕ) (count : Option ℕ) (tally : Bool) (ws new : List Watcher) (l : Listed) (f : Finding) → IsTold after count tally ws new l f → IsUntold f ws new
+untold after count tally ws new l f t = subst (λ x. IsUntold x ws new) (sym t.reported) tt
+
+-- where memory is refused behind the notices
+pub told-or-not : {Same : Type 0} (wanted : Option (List ℕ)) (after : ℕ) (count : Option ℕ) (tally : Bool) (ws new : List Watcher) (d : Divided) (l : ListedIrrep)
+    → FindsListing after count (λ next. IsListedThen wanted next d) (step.Passed l) → Same ⊎ ((f : Finding) × IsTold l.after l.count tally ws new (listed_in l) f)
+    → Same ⊎ ((f : Finding) × IsListTold wanted after count tally ws new d f)
+told-or-not wanted after count tally ws new d l found (inl e) = inl e
+told-or-not wanted after count tally ws new d l found (inr (f, t)) =
+    inr (f, (told-passed wanted after count tally ws new d l f found.0 t, untold l.after l.count tally ws new (listed_in l) f t))
+
+-- a listing that passed and is told
+pub told-found : (wanted : Option (List ℕ)) (after : ℕ) (count : Option ℕ) (tally : Bool) (ws new : List Watcher) (d : Divided) (l : ListedIrrep) (t : ToldListing)
+    → FindsListing after count (λ next. IsListedThen wanted next d) (step.Passed l) → IsTold l.after l.count tally ws new (listed_in l) (report (told_text t)) → IsToldHeld t
+    → FindsBy told_text IsToldHeld (IsListTold wanted after count tally ws new d) (step.Passed t)
+told-found wanted after count tally ws new d l t found told held = ((told-passed wanted after count tally ws new d l (report (told_text t)) found.0 told, tt), held)
+
+-- a refusal, with the watchers as they were
+pub untold-found : (wanted : Option (List ℕ)) (after : ℕ) (count : Option ℕ) (tally : Bool) (ws : List Watcher) (d : Divided) (r : Refusal)
+    → FindsListing after count (λ next. IsListedThen wanted next d) (step.Refused r) → FindsBy told_text IsToldHeld (IsListTold wanted after count tally ws ws d) (step.Refused r)
+untold-found wanted after count tally ws d r found = ((told-refused wanted after count tally ws ws d r found.0, refl), tt)
+
+-- a page that is told, with its finding
+pub page-told : {Same : Type 0} (after : ℕ) (count : Option ℕ) (tally : Bool) (ws new : List Watcher) (l : Listed) (ns : List Notice) (k : ℕ) → ns ≡ page_notices after count l → EndsAfter ns ws k
+    → Told (take k ns) ws new → Same ⊎ ((f : Finding) × IsTold after count tally ws new l f)
+page-told after count tally ws new l ns k e ends told =
+    inr (
+      report (told_report after k tally new l),
+      record {
+        told_count = k;
+        ends = subst (λ xs. EndsAfter xs ws k) e ends;
+        told = subst (λ xs. Told (take k xs) ws new) e told;
+        reported = refl;
+      },
+    )
 
 -- the pieces joined
 pub told-joined : (t : ToldListing) → concat (told_pieces t) ≡ told_text t

@@ -1,5 +1,4 @@
-use Rattle.std.proofs.Common.{◌≡◌, ◌∙◌, sym, ap, ◌++◌, ◌∷◌, [], arith}
-use Rattle.iso_watch.specs.declared.notice.Notice.{Notice}
+use Rattle.std.proofs.Common.{◌≡◌, ◌∙◌, sym, ◌++◌, ◌∷◌, [], arith}
 use Rattle.list_report.proofs.ListReportLemmas.{at-place}
 use Rattle.list_report.proofs.TellingLemmas.{notices-more}
 use Rattle.list_report.proofs.telling.notices_between.Goals as goal
