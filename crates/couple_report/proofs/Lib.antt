@@ -1,5 +1,6 @@
 pub mod CoupleLemmas
 pub mod CoupleUniqueLemmas
+pub mod JoinLemmas
 pub mod LinkHeldLemmas
 pub mod LinkLemmas
 pub mod LinkUniqueLemmas

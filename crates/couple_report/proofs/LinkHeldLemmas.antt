@@ -12,7 +12,7 @@ use Rattle.cyclo24.specs.Z24.{exact_z24}
 use Rattle.cyclo24.specs.declared.z24.Z24.{Z24}
 use Rattle.induce.specs.Induced.{dimension_of, induced_of}
 use Rattle.induce.specs.InducedView.{InducedView, IsInducedOf, star_in}
-use Rattle.induce.specs.Tables.{matrices_in}
+use Rattle.induce.specs.Tables.{dimension_in, matrices_in}
 use Rattle.iso_text.specs.declared.sections.IrrepText.{IrrepText}
 use Rattle.lin_alg.specs.Matrix.{MatrixView, entry}
 use Rattle.super_group.specs.Quotient.{SupercellGroup, quotient_group}
@@ -27,7 +27,7 @@ use Rattle.report_steps.specs.IrrepSteps.{Each}
 use Rattle.report_steps.specs.Steps.{OrWide}
 use Rattle.report_steps.specs.declared.refusal.Refusal.TheVariants as refusal
 use Rattle.report_steps.specs.declared.step.Step.{Step}
-use Rattle.couple_report.specs.FoundLink.{AnswersLink, row_in, rows_in, link_in}
+use Rattle.couple_report.specs.FoundLink.{AnswersLink, AreFewRows, row_in, rows_in, link_in}
 use Rattle.couple_report.specs.HeldPairs.{chosen_pair_by}
 use Rattle.couple_report.specs.LinkFound.{pair_by, entry_in, IsLinkMatrix, IsLinked, ArePairInduced, IsLinkOfPair, RefusesNoLink, AreWideLinks}
 use Rattle.couple_report.specs.LinkReport.{LinkMatrix}
@@ -140,3 +140,8 @@ answers-moved format s q irreps xs ys i j r e h each f =
 pub induced-moved : (s q : SupercellGroup) (irreps : List IrrepText) (xs ys : List InducedView) → s ≡ q → xs ≡ ys → Each (IsInducedHeld q) irreps ys → All (IsInducedOf s) xs
 induced-moved s q irreps xs ys e h each =
     all-induced s irreps xs (subst (λ (z : SupercellGroup). Each (IsInducedHeld z) irreps xs) (sym e) (subst (λ (zs : List InducedView). Each (IsInducedHeld q) irreps zs) (sym h) each))
+
+-- its rows are few
+pub few-rows : (q : SupercellGroup) (l r : InducedView) (x : Link) → dimension_in l.tables ≤ 288 → IsLinkOf q l r x → AreFewRows x
+few-rows q l r Nothing n h = tt
+few-rows q l r (Found m rank) n h = subst (λ k. k ≤ 288) (sym h.rows) n

@@ -41,11 +41,3 @@ table-more f g n old t new a b =
     let xs = map g (range_with_len 0 n) in
     let more = ap (flat_map f) (map-range_with_len_more g 0 n n (omega arith)) ∙ flat_map-append f xs (g n ∷ []) ∙ ap (λ z. flat_map f xs ++ z) (append-nil (f (g n))) in
     b ∙ ap (λ z. z ++ f (g n)) a ∙ append_assoc old (flat_map f xs) (f (g n)) ∙ ap (λ z. old ++ z) (sym more)
-
--- the lines of a link that is found
-pub lines-found : {E : Type 0} (m : MatrixView Z24) (rank : ℕ) (x : Link) (r : Result (List ℕ) E) → x ≡ Found m rank → IfOk r (λ t. t ≡ rank_line rank m.rows m.cols ++ flat_map row_line (rows_in m))
-    → IfOk r (λ t. t ≡ link_lines (link_in x))
-lines-found m rank x r e h =
-    let count : length (rows_in m) ≡ m.rows = length-map-range_with_len (λ i. row_in m i m.cols) 0 m.rows in
-    let P : List ℕ → Type 0 = λ z. IfOk r (λ t. t ≡ z) in
-    subst P (ap (λ n. rank_line rank n m.cols ++ flat_map row_line (rows_in m)) (sym count) ∙ ap (λ y. link_lines (link_in y)) (sym e)) h

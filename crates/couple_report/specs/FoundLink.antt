@@ -5,8 +5,9 @@
 -- AnswersLink p step: the program's answer at the link of two irreps
 -- told_by p x: a link, with what is told of both irreps
 -- link_of l: the report that is written of a link
--- FindsLink next answer: the finding is one of next
-use Rattle.std.specs.Prelude.{ℕ, ⊤, List, map, Option, Some, None}
+-- AreFewRows x, IsLinkHeld l: a link can be reported
+-- FindsLink next answer: the finding is one of next, and a link that passed is held
+use Rattle.std.specs.Prelude.{ℕ, ◌≤◌, ⊤, List, map, Option, Some, None}
 use Rattle.std.specs.List.{range_with_len}
 use Rattle.cyclo24.specs.declared.z24.Z24.{Z24}
 use Rattle.cyclo24.specs.Z24.{exact_z24}
@@ -49,10 +50,15 @@ told_by p x = record { format = p.left.format; name = p.left.irrep.name; other =
 abbrev pub link_of : FoundLink → List ℕ
 link_of l = link_text l.format l.name l.other l.order (link_in l.link)
 
--- each can be reported
-abbrev pub IsLinkHeld : FoundLink → Type 0
-IsLinkHeld l = ⊤
+-- as few rows as an irrep can induce
+abbrev pub AreFewRows : Link → Type 0
+AreFewRows Nothing = ⊤
+AreFewRows (Found m rank) = m.rows ≤ 288
 
--- the finding is one of next
+-- its rows can be counted
+abbrev pub IsLinkHeld : FoundLink → Type 0
+IsLinkHeld l = AreFewRows l.link
+
+-- the finding is one of next, and a link that passed is held
 abbrev pub FindsLink : (Finding → Type 0) → Step FoundLink → Type 0
 FindsLink = FindsBy link_of IsLinkHeld

@@ -18,3 +18,7 @@ pub mod LinkReport
 pub mod LinkFound
 -- what is found for `link`, by the program's answer
 pub mod FoundLink
+-- the pieces of the report of `couple`
+pub mod CouplePieces
+-- the pieces of the report of `link`
+pub mod LinkPieces

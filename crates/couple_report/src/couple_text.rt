@@ -1,12 +1,14 @@
-// The report of `couple`.
-ghost use Rattle.std.specs.Prelude.{◌≡◌, ◌+◌, ◌++◌, [], IfOk, codes, decimal};
+// The report of `couple`, in pieces.
+ghost use Rattle.std.specs.Prelude.{◌≡◌, ◌<◌, ◌++◌, [], IfOk, Some, codes, decimal, length, slice_get};
 ghost use Rattle.iso_text.specs.Lines.{line};
+ghost use Rattle.couple_report.specs.CouplePieces.{head_piece, direction_pieces};
 ghost use Rattle.couple_report.specs.CoupleReport.{couple_head};
-ghost use Rattle.couple_report.specs.FoundCouple.{couple_of, IsCoupleHeld};
+ghost use Rattle.couple_report.specs.FoundCouple.{IsCoupleHeld};
 
 use crate::together::FoundCouple;
 use iso_text::{Name, NoMemory, Text};
-use list_report::push_page;
+use list_report::{page_count, page_piece};
+use report_buffer::Report;
 use std::alloc::Global;
 
 // The first line, with the file's format.
@@ -46,7 +48,7 @@ fn irreps_line(
 }
 
 // The first three lines, for a group of this order and so many directions.
-fn head_of(alloc: Global, found: &FoundCouple, order: usize, total: usize) -> Result<Text, NoMemory>
+fn head_by(alloc: Global, found: &FoundCouple, order: usize, total: usize) -> Result<Text, NoMemory>
     ensures { IfOk result (λ text. text ≡ couple_head found.now.format found.now.name found.now.other found.now.dim found.now.other_dim order total []) }
 {
     let mut text = first_line(alloc, found.format)?;
@@ -65,23 +67,51 @@ fn head_of(alloc: Global, found: &FoundCouple, order: usize, total: usize) -> Re
     Ok(text)
 }
 
-/// The report of `couple` on a listing: the irreps, and each direction of the page with its form, whose
-/// letters run through both parts, its kept translations and its operations. Condition: the directions are
-/// those of at most 24 dimensions, with stabilisers of elements of the quotient. Errors: want of memory.
-pub fn couple_report(alloc: Global, found: &FoundCouple) -> Result<Text, NoMemory>
-    requires { IsCoupleHeld found.now }
-    ensures { IfOk result (λ text. text ≡ couple_of found.now) }
+// The first three lines.
+fn head_of(alloc: Global, found: &FoundCouple) -> Result<Text, NoMemory>
+    ensures { IfOk result (λ text. text ≡ head_piece found.now) }
 {
     let order = found.quotient.order();
-    let mut text = head_of(alloc, found, order, found.listing.len())?;
-    push_page(
+    let total = found.listing.len();
+    head_by(alloc, found, order, total)
+}
+
+// The lines of a direction of the page, by its place on it.
+fn direction_piece(alloc: Global, found: &FoundCouple, place: usize) -> Result<Text, NoMemory>
+    requires held { IsCoupleHeld found.now }
+    requires place { place < length (direction_pieces found.now) }
+    ensures { IfOk result (λ text. slice_get (direction_pieces found.now) place ≡ Some text) }
+{
+    page_piece(
         alloc,
-        &mut text,
         &found.quotient,
         found.dim + found.other_dim,
         &found.listing,
         found.after,
         found.count,
-    )?;
-    Ok(text)
+        place,
+    )
+}
+
+/// The report of `couple` on a listing: the irreps, and each direction of the page with its form, whose
+/// letters run through both parts, its kept translations and its operations. Condition: the directions are
+/// those of at most 24 dimensions, with stabilisers of elements of the quotient. Errors: want of memory.
+impl Report for FoundCouple {
+    ghost use Rattle.couple_report.specs.CouplePieces.{couple_pieces};
+    ghost use Rattle.couple_report.specs.FoundCouple.{IsCoupleHeld};
+
+    ghost fits = { IsCoupleHeld };
+
+    ghost pieces = { couple_pieces };
+
+    fn count(&self) -> usize {
+        page_count(&self.listing, self.after, self.count) + 1
+    }
+
+    fn piece(&self, alloc: Global, number: usize) -> Result<Text, NoMemory> {
+        if number == 0 {
+            return head_of(alloc, self);
+        }
+        direction_piece(alloc, self, number - 1)
+    }
 }

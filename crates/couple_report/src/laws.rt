@@ -1,14 +1,21 @@
 // Laws over the definitions, as contracts of functions that do nothing.
-ghost use Rattle.std.specs.Prelude.{ℕ, List, Option};
+ghost use Rattle.std.specs.Prelude.{◌≡◌, ℕ, List, Option};
+ghost use Rattle.std.specs.List.{concat};
 ghost use Rattle.cyclo24.specs.ExactK24.{k24_laws};
 ghost use Rattle.super_group.specs.Quotient.{IsQuotient};
 ghost use Rattle.report_steps.specs.Contexts.{Divided};
 ghost use Rattle.report_steps.specs.StepLaws.{FindsOneAt};
 ghost use Rattle.couple_report.specs.CoupleFound.{CoupledForm, CoupledListing, AreCoupled, IsCoupledListing, IsCoupleFound};
+ghost use Rattle.couple_report.specs.CouplePieces.{couple_pieces};
+ghost use Rattle.couple_report.specs.FoundCouple.{couple_of};
+ghost use Rattle.couple_report.specs.FoundLink.{link_of};
 ghost use Rattle.couple_report.specs.LinkFound.{IsLinkFound};
+ghost use Rattle.couple_report.specs.LinkPieces.{link_pieces};
 ghost use Rattle.couple_report.specs.PairListings.{ListsPairs};
 ghost use Rattle.couple_report.specs.Pairs.{FormedPair};
 
+use crate::link::FoundLink;
+use crate::together::FoundCouple;
 use couple::law_of_pairs;
 use cyclo24::K24;
 use list_report::law_of_listing_steps;
@@ -38,3 +45,13 @@ pub fn law_of_link_found()
     law_of_listing_steps();
     law_of_irreps();
 }
+
+/// The pieces of the report of `couple`, one behind the other, are the report.
+pub fn law_of_couple_pieces()
+    ensures { (c : FoundCouple) → concat (couple_pieces c) ≡ couple_of c }
+{}
+
+/// The pieces of the report of `link`, one behind the other, are the report.
+pub fn law_of_link_pieces()
+    ensures { (l : FoundLink) → concat (link_pieces l) ≡ link_of l }
+{}

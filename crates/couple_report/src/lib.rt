@@ -3,8 +3,8 @@
 //! Two irreps of a file are taken together. For `couple` the quotient acts on the pairs of their order
 //! parameters, the coordinates of the first in front, and one direction is listed for each class of
 //! isotropy subgroups of pairs. For `link` the matrices that both induce are linked. Conventions: elements
-//! are numbered from 0, directions from 1. The layer above uses `couple_found` and `couple_report`,
-//! `link_found` and `link_report`.
+//! are numbered from 0, directions from 1. The layer above uses `couple_found` and
+//! `link_found`, and the reports of what they find.
 #![tactic(auto)]
 
 mod closing;
@@ -17,9 +17,10 @@ mod pair_listing;
 mod places;
 mod together;
 
-pub use couple_text::couple_report;
-pub use laws::{law_of_couple_found, law_of_coupled_listing, law_of_link_found};
+pub use laws::{
+    law_of_couple_found, law_of_couple_pieces, law_of_coupled_listing, law_of_link_found,
+    law_of_link_pieces,
+};
 pub use link::{FoundLink, link_found};
-pub use link_text::link_report;
 pub use pair_listing::couple_found;
 pub use together::FoundCouple;

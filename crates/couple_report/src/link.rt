@@ -5,7 +5,8 @@ ghost use Rattle.induce.specs.InducedView.{IsInducedOf};
 ghost use Rattle.report_steps.specs.Held.{IsInducedHeld};
 ghost use Rattle.report_steps.specs.HeldFiles.{AreInducedHeld};
 ghost use Rattle.report_steps.specs.IrrepSteps.{Each};
-ghost use Rattle.couple_report.specs.FoundLink.{AnswersLink, told_by, FindsLink};
+ghost use Rattle.report_steps.specs.Steps.{IfPassed};
+ghost use Rattle.couple_report.specs.FoundLink.{AnswersLink, AreFewRows, told_by, FindsLink};
 ghost use Rattle.couple_report.specs.HeldPairs.{chosen_pair_by, chosen_pair};
 ghost use Rattle.couple_report.specs.LinkFound.{AfterLinkedPair, IsLinkFound};
 
@@ -36,8 +37,10 @@ fn link_of_both(
 ) -> Result<Step<Link>, NoMemory>
     requires left { IsInducedOf quotient.now left.now }
     requires right { IsInducedOf quotient.now right.now }
-    ensures { (format : ℕ) (i j : Irrep) → IsInducedHeld quotient.now i left.now → IsInducedHeld quotient.now j right.now → IfOk result (AnswersLink (chosen_pair_by format quotient.now i j)) }
+    ensures answer { (format : ℕ) (i j : Irrep) → IsInducedHeld quotient.now i left.now → IsInducedHeld quotient.now j right.now → IfOk result (AnswersLink (chosen_pair_by format quotient.now i j)) }
+    ensures few { IfOk result (λ step. IfPassed step AreFewRows) }
 {
+    let _rows = left.dim();
     match link(alloc, quotient, left, right) {
         Ok(link) => Ok(Step::Passed(link)),
         Err(LinkError::Wide(family)) => Ok(Step::Refused(Refusal::Wide(family))),
@@ -56,7 +59,8 @@ fn link_among(
     requires of { All (IsInducedOf quotient.now) all.now }
     requires left { k < length all.now }
     requires right { l < length all.now }
-    ensures { (format : ℕ) (irreps : List Irrep) (i j : Irrep) → Each (IsInducedHeld quotient.now) irreps all.now → slice_get irreps k ≡ Some i → slice_get irreps l ≡ Some j → IfOk result (AnswersLink (chosen_pair_by format quotient.now i j)) }
+    ensures answer { (format : ℕ) (irreps : List Irrep) (i j : Irrep) → Each (IsInducedHeld quotient.now) irreps all.now → slice_get irreps k ≡ Some i → slice_get irreps l ≡ Some j → IfOk result (AnswersLink (chosen_pair_by format quotient.now i j)) }
+    ensures few { IfOk result (λ step. IfPassed step AreFewRows) }
 {
     link_of_both(alloc, quotient, &all[k], &all[l])
 }
@@ -66,7 +70,8 @@ fn link_at(alloc: Global, file: &InducedFile, k: usize, l: usize) -> Result<Step
     requires held { AreInducedHeld file.now }
     requires left { k < length file.now.divided.file.irreps }
     requires right { l < length file.now.divided.file.irreps }
-    ensures { (i j : Irrep) → slice_get file.now.divided.file.irreps k ≡ Some i → slice_get file.now.divided.file.irreps l ≡ Some j → IfOk result (AnswersLink (chosen_pair file.now.divided i j)) }
+    ensures answer { (i j : Irrep) → slice_get file.now.divided.file.irreps k ≡ Some i → slice_get file.now.divided.file.irreps l ≡ Some j → IfOk result (AnswersLink (chosen_pair file.now.divided i j)) }
+    ensures few { IfOk result (λ step. IfPassed step AreFewRows) }
 {
     link_among(alloc, file.divided.quotient(), &file.irreps, k, l)
 }

@@ -1,17 +1,19 @@
-// The report of `link`.
-ghost use Rattle.std.specs.Prelude.{◌≡◌, ◌<◌, ◌++◌, ◌∷◌, [], Some, IfOk, OnOk, codes, decimal, flat_map};
+// The report of `link`, in pieces.
+ghost use Rattle.std.specs.Prelude.{◌≡◌, ◌<◌, ◌≤◌, ◌+◌, ◌++◌, [], Some, IfOk, OnOk, codes, decimal, flat_map, length, slice_get};
 ghost use Rattle.cyclo24.specs.ExactZ24.{z24_laws};
 ghost use Rattle.cyclo24.specs.Z24.{exact_z24};
 ghost use Rattle.lin_alg.specs.Matrix.{entry};
 ghost use Rattle.iso_text.specs.Lines.{line};
-ghost use Rattle.couple_report.specs.LinkReport.{entry_text, row_line, rank_line, link_lines, link_head};
-ghost use Rattle.couple_report.specs.FoundLink.{row_in, rows_in, link_in, link_of};
+ghost use Rattle.couple_report.specs.LinkReport.{entry_text, row_line, rank_line, link_head};
+ghost use Rattle.couple_report.specs.FoundLink.{row_in, AreFewRows};
+ghost use Rattle.couple_report.specs.LinkPieces.{matrix_pieces, line_pieces};
 
 use crate::link::FoundLink;
 use couple::Link;
 use cyclo24::Z24;
 use iso_text::{Name, NoMemory, Text};
 use lin_alg::Matrix;
+use report_buffer::Report;
 use std::alloc::Global;
 
 // Adds the entry in row i and column j behind a space.
@@ -46,24 +48,16 @@ fn push_entries(
     Ok(())
 }
 
-// Adds the line of row i.
-fn push_row(alloc: Global, text: &mut Text, matrix: &Matrix<Z24>, i: usize) -> Result<(), NoMemory>
+// The line of row i.
+fn row_text(alloc: Global, matrix: &Matrix<Z24>, i: usize) -> Result<Text, NoMemory>
     requires { i < matrix.now.rows }
-    ensures { OnOk result (text.new ≡ text.old ++ row_line (row_in matrix.now i matrix.now.cols)) }
+    ensures { IfOk result (λ text. text ≡ row_line (row_in matrix.now i matrix.now.cols)) }
 {
+    let mut text = Text::new(alloc);
     text.push(b"row")?;
-    push_entries(alloc, text, matrix, i)?;
-    text.push(b"\n")
-}
-
-// Adds the lines of all rows.
-fn push_rows(alloc: Global, text: &mut Text, matrix: &Matrix<Z24>) -> Result<(), NoMemory>
-    ensures { OnOk result (text.new ≡ text.old ++ flat_map row_line (rows_in matrix.now)) }
-{
-    for i in 0..matrix.rows() {
-        push_row(alloc, text, matrix, i)?;
-    }
-    Ok(())
+    push_entries(alloc, &mut text, matrix, i)?;
+    text.push(b"\n")?;
+    Ok(text)
 }
 
 // The line of a rank and of both dimensions.
@@ -81,26 +75,46 @@ fn rank_line(alloc: Global, rank: u32, rows: usize, cols: usize) -> Result<Text,
     Ok(text)
 }
 
-// The lines of a matrix with its rank.
-fn matrix_text(alloc: Global, matrix: &Matrix<Z24>, rank: u32) -> Result<Text, NoMemory>
-    ensures { IfOk result (λ text. text ≡ rank_line rank matrix.now.rows matrix.now.cols ++ flat_map row_line (rows_in matrix.now)) }
+// The line of the rank for 0, that of row i - 1 for i.
+fn matrix_piece(alloc: Global, matrix: &Matrix<Z24>, rank: u32, i: usize) -> Result<Text, NoMemory>
+    requires { i < matrix.now.rows + 1 }
+    ensures { IfOk result (λ text. slice_get (matrix_pieces matrix.now rank) i ≡ Some text) }
 {
-    let mut text = rank_line(alloc, rank, matrix.rows(), matrix.cols())?;
-    push_rows(alloc, &mut text, matrix)?;
+    if i == 0 {
+        return rank_line(alloc, rank, matrix.rows(), matrix.cols());
+    }
+    row_text(alloc, matrix, i - 1)
+}
+
+// The line that tells that there is no link.
+fn none_line(alloc: Global) -> Result<Text, NoMemory>
+    ensures { IfOk result (λ text. text ≡ line (codes "link none") []) }
+{
+    let mut text = Text::new(alloc);
+    text.push(b"link none\n")?;
     Ok(text)
 }
 
-// The lines of a link.
-fn lines_of(alloc: Global, link: &Link) -> Result<Text, NoMemory>
-    ensures { IfOk result (λ text. text ≡ link_lines (link_in link.now)) }
+// Line i of a link.
+fn line_piece(alloc: Global, link: &Link, i: usize) -> Result<Text, NoMemory>
+    requires { i < length (line_pieces link.now) }
+    ensures { IfOk result (λ text. slice_get (line_pieces link.now) i ≡ Some text) }
 {
     match link {
-        Link::Nothing => {
-            let mut text = Text::new(alloc);
-            text.push(b"link none\n")?;
-            Ok(text)
-        }
-        Link::Found { matrix, rank } => matrix_text(alloc, matrix, *rank),
+        Link::Nothing => none_line(alloc),
+        Link::Found { matrix, rank } => matrix_piece(alloc, matrix, *rank, i),
+    }
+}
+
+// How many lines a link has.
+fn line_count(link: &Link) -> usize
+    requires { AreFewRows link.now }
+    ensures value { result ≡ length (line_pieces link.now) }
+    ensures few { result ≤ 289 }
+{
+    match link {
+        Link::Nothing => 1,
+        Link::Found { matrix, rank: _ } => matrix.rows() + 1,
     }
 }
 
@@ -142,10 +156,22 @@ fn head_of(alloc: Global, found: &FoundLink) -> Result<Text, NoMemory>
 
 /// The report of `link`: the irreps, and the rank of their link with its rows, or that there is none.
 /// Errors: want of memory.
-pub fn link_report(alloc: Global, found: &FoundLink) -> Result<Text, NoMemory>
-    ensures { IfOk result (λ text. text ≡ link_of found.now) }
-{
-    let mut text = head_of(alloc, found)?;
-    text.push(lines_of(alloc, &found.link)?.as_slice())?;
-    Ok(text)
+impl Report for FoundLink {
+    ghost use Rattle.couple_report.specs.LinkPieces.{link_pieces};
+    ghost use Rattle.couple_report.specs.FoundLink.{IsLinkHeld};
+
+    ghost fits = { IsLinkHeld };
+
+    ghost pieces = { link_pieces };
+
+    fn count(&self) -> usize {
+        line_count(&self.link) + 1
+    }
+
+    fn piece(&self, alloc: Global, number: usize) -> Result<Text, NoMemory> {
+        if number == 0 {
+            return head_of(alloc, self);
+        }
+        line_piece(alloc, &self.link, number - 1)
+    }
 }

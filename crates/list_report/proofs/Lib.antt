@@ -1,6 +1,7 @@
 pub mod ActionLemmas
 pub mod ChoiceLemmas
 pub mod ClosingLemmas
+pub mod CountLemmas
 pub mod FactorLemmas
 pub mod FormFoundLemmas
 pub mod FormTextLemmas
@@ -10,7 +11,9 @@ pub mod ListReportLemmas
 pub mod ListUniqueLemmas
 pub mod ListingLemmas
 pub mod PageJoinLemmas
+pub mod PageLemmas
 pub mod PieceLemmas
 pub mod RealFormLemmas
 pub mod RealisingLemmas
 pub mod TermLemmas
+pub mod TellingLemmas

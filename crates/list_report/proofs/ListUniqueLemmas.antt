@@ -23,9 +23,8 @@ use Rattle.list_report.specs.Choice.{RefusesChoice, IsChosen}
 use Rattle.list_report.specs.Closing.{limit_of, order_by, RefusesSubspaces, AreWideSubspaces, AreFew, RefusesNone, AreWideClasses, IsListed}
 use Rattle.report_steps.specs.Contexts.{Divided}
 use Rattle.list_report.specs.Contexts.{Chosen, Formed, Listed}
-use Rattle.report_steps.specs.Finding.{report}
-use Rattle.list_report.specs.Listings.{IsReported, AfterClosing, AfterForm, AfterChoice, IsListFound}
-use Rattle.list_report.specs.ListReport.{listing_text}
+use Rattle.report_steps.specs.Finding.{Finding}
+use Rattle.list_report.specs.Listings.{IsReported, AfterClosing, AfterForm, AfterChoice, IsListedThen, IsListFound}
 use Rattle.list_report.specs.RealForms.{IsOfKind, matrices_by, dimension_by, IsRealForm, RefusesForm, IsWideFormOf, IsFormed}
 use Rattle.report_steps.specs.StepLaws.{FindsOneAt, After-single-at, IsSingleFor, FindsOneFor, After-single-for}
 use Rattle.report_steps.specs.Steps.{never}
@@ -35,6 +34,10 @@ use Rattle.list_report.specs.TwinLaws.{AreAlike, AreTwins}
 use Rattle.list_report.proofs.ActionLemmas.{alike-sym, listing-to, more-to}
 use Rattle.list_report.proofs.ChoiceLemmas.{choice-single}
 use Rattle.list_report.proofs.RealFormLemmas.{orbit-same, BasisBy, NoneBy, MatricesBy, basis-by, basis-one, basis-none, basis-reduced, matrices-one}
+
+-- what is found of a listing is one
+abbrev pub FindsOneEach : (Listed → Finding → Type 0) → Type 0
+FindsOneEach next = (l : Listed) → FindsOneAt next l
 
 -- each action has one listing
 abbrev pub ListingsAreUnique : Type 0
@@ -66,10 +69,10 @@ module _ (listings : ListingsAreUnique) (x y : Formed) (w : AreTwins x y) where
       let ds = directions-one l m a b in
       (λ t. listed (format t) (quotient t) (name t) (dim t) (ds t))
 
-  classes-one : (after : ℕ) (count : Option ℕ) → FindsOneFor (AfterClosing after count) x y
-  classes-one after count =
-      After-single-for RefusesNone AreWideClasses IsListed (IsReported after count) x y (record { refusal = λ r s p q. absurd p; first = λ r c p q. absurd p; second = λ r c p q. absurd q })
-      (λ l m a b f g e h u v. e ∙ ap (λ (z : Listed). report (listing_text z.format z.name z.quotient z.dim after count z.directions)) (listed-one l m a b) ∙ sym h)
+  classes-one : (next : Listed → Finding → Type 0) → FindsOneEach next → FindsOneFor (AfterClosing next) x y
+  classes-one next one =
+      After-single-for RefusesNone AreWideClasses IsListed next x y (record { refusal = λ r s p q. absurd p; first = λ r c p q. absurd p; second = λ r c p q. absurd q })
+      (λ l m a b f g e h u v. let P : Listed → Type 0 = λ z. next z f in one m f g (subst P (listed-one l m a b) e) h u v)
 
 abbrev AreMore : Formed → ℕ → Type 0
 AreMore z n = AreMoreFixes k24_laws z.act n
@@ -82,13 +85,13 @@ module _ (x y : Formed) (w : AreTwins x y) where
     second = λ r c p q. p.0 (subst (λ n. AreMore x n) (sym (ap limit_of w.format)) (more-to k24 y.act x.act (alike-sym k24 x.act y.act w.act) (limit_of y.format) q.0));
   }
 
-  closing-one : ListingsAreUnique → (after : ℕ) (count : Option ℕ) → FindsOneFor (AfterForm after count) x y
-  closing-one listings after count =
-      After-single-for RefusesSubspaces AreWideSubspaces AreFew (AfterClosing after count) x y closing-single
+  closing-one : ListingsAreUnique → (next : Listed → Finding → Type 0) → FindsOneEach next → FindsOneFor (AfterForm next) x y
+  closing-one listings next one =
+      After-single-for RefusesSubspaces AreWideSubspaces AreFew (AfterClosing next) x y closing-single
       (λ c d p q.
-      let P : Formed → Type 0 = λ z. FindsOneFor (AfterClosing after count) z d in
-      let Q : Formed → Type 0 = λ z. FindsOneFor (AfterClosing after count) x z in
-      subst P (sym p.1) (subst Q (sym q.1) (classes-one listings x y w after count)))
+      let P : Formed → Type 0 = λ z. FindsOneFor (AfterClosing next) z d in
+      let Q : Formed → Type 0 = λ z. FindsOneFor (AfterClosing next) x z in
+      subst P (sym p.1) (subst Q (sym q.1) (classes-one listings x y w next one)))
 
 -- ---- the real form
 
@@ -215,11 +218,15 @@ module _ (one : IrrepsInduceOne) (c : Chosen) (h : IsQuotient c.quotient) where
     second = λ r x a p. refused-formed r x p a;
   }
 
-  choice-found : ListingsAreUnique → (after : ℕ) (count : Option ℕ) → FindsOneAt (AfterChoice after count) c
-  choice-found listings after count =
-      After-single-for RefusesForm IsWideFormOf IsFormed (AfterForm after count) c c form-single (λ x y a b. closing-one x y (formed-twins x y a b) listings after count)
+  choice-found : ListingsAreUnique → (next : Listed → Finding → Type 0) → FindsOneEach next → FindsOneAt (AfterChoice next) c
+  choice-found listings next one =
+      After-single-for RefusesForm IsWideFormOf IsFormed (AfterForm next) c c form-single (λ x y a b. closing-one x y (formed-twins x y a b) listings next one)
+
+-- what is found of one listing alone is one
+pub listed-then : IrrepsInduceOne → ListingsAreUnique → (d : Divided) → IsQuotient d.quotient → (wanted : Option (List ℕ)) (next : Listed → Finding → Type 0) → FindsOneEach next → FindsOneAt (IsListedThen wanted next) d
+listed-then one listings d h wanted next each =
+    After-single-at (RefusesChoice wanted) never (IsChosen wanted) (AfterChoice next) d (choice-single wanted d)
+    (λ c w. choice-found one c (subst IsQuotient (sym (ap (λ (x : Chosen). x.quotient) w.1)) h) listings next each)
 
 pub list-found : IrrepsInduceOne → ListingsAreUnique → (d : Divided) → IsQuotient d.quotient → (wanted : Option (List ℕ)) (after : ℕ) (count : Option ℕ) → FindsOneAt (IsListFound wanted after count) d
-list-found one listings d h wanted after count =
-    After-single-at (RefusesChoice wanted) never (IsChosen wanted) (AfterChoice after count) d (choice-single wanted d)
-    (λ c w. choice-found one c (subst IsQuotient (sym (ap (λ (x : Chosen). x.quotient) w.1)) h) listings after count)
+list-found one listings d h wanted after count = listed-then one listings d h wanted (IsReported after count) (λ l f g e k u v. e ∙ sym k)

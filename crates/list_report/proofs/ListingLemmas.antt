@@ -1,16 +1,15 @@
 -- What is found for `list`, by the program's values.
 use Rattle.std.proofs.Common.{◌≡◌, refl, sym, ap, ◌∙◌, subst, inr, ℕ, zero, suc, ◌<◌, ◌≤◌, List, [], ◌∷◌, length, map, get_or, Option, Some, slice_get, Result, IfOk, arith}
 use Rattle.std.specs.Prelude.{All}
-use Rattle.std.proofs.lemmas.List.{get_or_default}
+use Rattle.std.proofs.lemmas.List.{get_or_default, length-map}
 use Rattle.std.proofs.lemmas.Option.{get_or_from_slice_get}
 use Rattle.iso_text.specs.declared.sections.IrrepText.{IrrepText}
 use Rattle.real_form.specs.declared.form.RealForm.{RealForm}
 use Rattle.list_report.specs.Choice.{RefusesChoice, IsChosen, chosen_by, chosen_of}
 use Rattle.list_report.specs.RealForms.{RefusesForm, IsWideFormOf, IsFormed}
-use Rattle.report_steps.specs.Steps.{Answers, OrWide, never}
+use Rattle.report_steps.specs.Steps.{After, Answers, OrWide, never}
 use Rattle.report_steps.specs.declared.step.Step.{Step}
 use Rattle.std.proofs.lemmas.Result.{IfOk-weaker}
-use Rattle.report_steps.specs.FindingLaws.{found-next}
 use Rattle.algebra.specs.RisingLists.{IsRisingListOf}
 use Rattle.cyclo24.specs.declared.k24.K24.{K24}
 use Rattle.cyclo24.specs.K24.{exact24}
@@ -21,27 +20,35 @@ use Rattle.lin_alg.specs.ActionLaws.{image-identity}
 use Rattle.class_list.specs.Stabilisers.{IsStabiliserOf}
 use Rattle.algebra.specs.RisingListLaws.{has-listed}
 use Rattle.super_group.specs.Quotient.{SupercellGroup, order_of}
+use Rattle.fix_lattice.specs.Lattice.{AreMoreFixes}
 use Rattle.fix_lattice.specs.Subspaces.{AreWholeForms}
+use Rattle.list_report.proofs.CountLemmas.{rising-few, listing-few}
 use Rattle.class_list.specs.Directions.{IsDirection}
 use Rattle.class_list.specs.Seen.{DirectionView, direction_of, directions_of}
 use Rattle.real_form.specs.RealForm.{action_of, action_of-lawful}
-use Rattle.list_report.specs.Closing.{IsListed}
+use Rattle.list_report.specs.Closing.{limit_of, order_by, IsListed}
 use Rattle.report_steps.specs.Contexts.{Divided}
-use Rattle.list_report.specs.Contexts.{Formed}
-use Rattle.list_report.specs.FoundListing.{listed_text, FindsListing}
+use Rattle.list_report.specs.Contexts.{Formed, Listed}
+use Rattle.list_report.specs.FoundListing.{FindsListing}
 use Rattle.list_report.specs.HeldListings.{formed_by, formed_in, listed_in, IsPlaceOf, IsFormedHeld, IsListingHeld, AreDirections}
-use Rattle.list_report.specs.Listings.{AfterClosing, AfterChoice, IsListFound}
-use Rattle.list_report.specs.ListReport.{listing_text}
-use Rattle.report_steps.specs.Finding.{report}
+use Rattle.list_report.specs.Listings.{AfterClosing, AfterChoice, IsListedThen}
+use Rattle.report_steps.specs.Finding.{Finding}
+use Rattle.report_steps.specs.declared.refusal.Refusal.{Refusal}
 use Rattle.list_report.specs.declared.listed.FormedIrrep.{FormedIrrep}
 use Rattle.list_report.specs.declared.listed.ListedIrrep.{ListedIrrep}
 use Rattle.report_steps.specs.declared.step.Step.TheVariants as step
 
 -- a listing behind the fixed subspaces
 pub listed-found : (x : Formed) (after : ℕ) (count : Option ℕ) (r : ListedIrrep) → IsListed x (listed_in r) → IsListingHeld r → r.after ≡ after → r.count ≡ count
-    → FindsListing (AfterClosing after count x) (step.Passed r)
-listed-found x after count r l held a n =
-    (inr (inr (listed_in r, l, λ t. report (listing_text r.format r.name r.quotient r.dim (a t) (n t) (listed_in r).directions))), held)
+    → FindsListing after count (λ next. AfterClosing next x) (step.Passed r)
+listed-found x after count r l held a n = (inr (inr (listed_in r, l, (refl, a, n))), held)
+
+-- what is found behind a value that passes
+pub listing-next : {A B E : Type 0} (refuses : A → Refusal → Type 0) (wide : A → ℕ → Type 0) (passes : A → B → Type 0) (chain : (Listed → Finding → Type 0) → B → Finding → Type 0) (a : A) (b : B)
+    → passes a b → (after : ℕ) (count : Option ℕ) (r : Result (Step ListedIrrep) E) → IfOk r (FindsListing after count (λ next. chain next b))
+    → IfOk r (FindsListing after count (λ next. After refuses wide passes (chain next) a))
+listing-next refuses wide passes chain a b p after count r h =
+    IfOk-weaker r (FindsListing after count (λ next. chain next b)) (FindsListing after count (λ next. After refuses wide passes (chain next) a)) (λ s w. (inr (inr (b, p, w.0)), w.1)) h
 
 members-below : (n : ℕ) (P : ℕ → Type 0) (hs : List ℕ) → IsRisingListOf n P hs → All (λ q. q < n) hs
 members-below n P hs h k d l = subst (λ (q : ℕ). q < n) (sym (get_or_default hs k d 0 l)) (h.below k l)
@@ -65,15 +72,31 @@ all-some act law [] h k e l = absurd (omega arith)
 all-some act law (d ∷ ds) h zero e l = let i = (h 0 (direction_of k24_laws exact24 d) (omega arith)).isotropy in identity-listed k24 act law i.0 d.stabiliser i.1
 all-some act law (d ∷ ds) h (suc k) e l = all-some act law ds (rest-directions act d ds h) k e (omega arith)
 
+all-orders : (act : Action) (ds : List (DirectionView K24)) → All (IsDirection k24_laws act) (directions_of k24_laws exact24 ds) → All (λ (d : DirectionView K24). length d.stabiliser ≤ act.group.order) ds
+all-orders act [] h k e l = absurd (omega arith)
+all-orders act (d ∷ ds) h zero e l = let i = (h 0 (direction_of k24_laws exact24 d) (omega arith)).isotropy in rising-few act.group.order _ d.stabiliser i.1
+all-orders act (d ∷ ds) h (suc k) e l = all-orders act ds (rest-directions act d ds h) k e (omega arith)
+
+limit-few : (format : ℕ) → limit_of format ≤ 16384
+limit-few format = grind arith
+
 all-widths : (n : ℕ) (ds : List (DirectionView K24)) → AreWholeForms k24_laws exact24 n (map (λ d. d.equations) ds) → All (λ (d : DirectionView K24). d.equations.width ≡ n) ds
 all-widths n [] h k e l = absurd (omega arith)
 all-widths n (d ∷ ds) h zero e l = h.0.width
 all-widths n (d ∷ ds) h (suc k) e l = all-widths n ds h.1 k e (omega arith)
 
-module _ (x : FormedIrrep) (held : IsFormedHeld x) (r : ListedIrrep) (d : AreDirections (formed_in x) r.listing) (format : r.format ≡ x.format) (name : r.name ≡ x.name)
+module _ (x : FormedIrrep) (held : IsFormedHeld x) (r : ListedIrrep) (d : AreDirections (formed_in x) r.listing)
+    (subspaces : AreMoreFixes k24_laws (action_of x.form) (limit_of x.format) → ⊥) (format : r.format ≡ x.format) (name : r.name ≡ x.name)
     (quotient : r.quotient ≡ x.quotient) (dim : r.dim ≡ (action_of x.form).dim) where
   pub is-listed : IsListed (formed_in x) (listed_in r)
   is-listed = record { listing = d.listing; dim = dim; format_is = format; quotient_is = quotient; name_is = name }
+
+  numbers : length r.listing ≤ 16384
+  numbers =
+      let few = listing-few k24 (action_of x.form) (action_of-lawful x.form) (order_by x.format) (directions_of k24_laws exact24 r.listing) d.listing (limit_of x.format) subspaces in
+      let count = length-map r.listing (direction_of k24_laws exact24) in
+      let limit = limit-few x.format in
+      omega (arith, few, count, limit)
 
   pub is-listing-held : IsListingHeld r
   is-listing-held =
@@ -88,6 +111,8 @@ module _ (x : FormedIrrep) (held : IsFormedHeld x) (r : ListedIrrep) (d : AreDir
           some = all-some act (action_of-lawful x.form) r.listing d.listing.directions;
         };
         few = subst (λ n. n ≤ 24) (sym dim) held.few;
+        numbered = numbers;
+        orders = subst (λ n. All (λ (d : DirectionView K24). length d.stabiliser ≤ n) r.listing) e (all-orders act r.listing d.listing.directions);
       }
 
 -- the answer at an irrep of a list, by its place
@@ -110,7 +135,8 @@ answer-moved format p q i r e h = subst (λ (s : SupercellGroup). AnswersForm fo
 
 -- what is found behind the irrep at a place
 pub choice-next : {E : Type 0} (wanted : Option (List ℕ)) (after : ℕ) (count : Option ℕ) (d : Divided) (irreps : List IrrepText) → irreps ≡ d.file.irreps → (k : ℕ) → IsPlaceOf wanted irreps k
-    → (r : Result (Step ListedIrrep) E) → ((i : IrrepText) → slice_get d.file.irreps k ≡ Some i → IfOk r (FindsListing (AfterChoice after count (chosen_of d i)))) → IfOk r (FindsListing (IsListFound wanted after count d))
+    → (r : Result (Step ListedIrrep) E) → ((i : IrrepText) → slice_get d.file.irreps k ≡ Some i → IfOk r (FindsListing after count (λ next. AfterChoice next (chosen_of d i))))
+    → IfOk r (FindsListing after count (λ next. IsListedThen wanted next d))
 choice-next wanted after count d irreps e k p r next =
     let h = subst (λ (xs : List IrrepText). IsPlaceOf wanted xs k) e p in
-    found-next listed_text IsListingHeld (RefusesChoice wanted) never (IsChosen wanted) (AfterChoice after count) d (chosen_of d h.0) (h.2, refl) r (next h.0 h.1)
+    listing-next (RefusesChoice wanted) never (IsChosen wanted) AfterChoice d (chosen_of d h.0) (h.2, refl) after count r (next h.0 h.1)

@@ -5,8 +5,8 @@
 -- AreClosed act held: the fixed subspaces of an action
 -- AreDirections x l: the listing of a real form
 -- listed_in l: a listing, as the definitions name it
--- IsListingHeld l: its directions can be reported
-use Rattle.std.specs.Prelude.{◌≡◌, ℕ, ◌≤◌, List, map, Option, Some, slice_get}
+-- IsListingHeld l: its directions can be reported, and fit into notices
+use Rattle.std.specs.Prelude.{◌≡◌, ℕ, ◌≤◌, List, All, length, map, Option, Some, slice_get}
 use Rattle.cyclo24.specs.declared.k24.K24.{K24}
 use Rattle.cyclo24.specs.K24.{exact24}
 use Rattle.cyclo24.specs.ExactK24.{k24, k24_laws}
@@ -18,6 +18,7 @@ use Rattle.class_list.specs.Seen.{DirectionView, directions_of}
 use Rattle.class_list.specs.Directions.{IsListing}
 use Rattle.real_form.specs.declared.form.RealForm.{RealForm}
 use Rattle.real_form.specs.RealForm.{quotient_of, action_of}
+use Rattle.super_group.specs.Quotient.{order_of}
 use Rattle.list_report.specs.Choice.{IsWanted}
 use Rattle.list_report.specs.Closing.{order_by}
 use Rattle.list_report.specs.Contexts.{Chosen, Formed, Listed}
@@ -61,3 +62,5 @@ listed_in l = record { format = l.format; quotient = l.quotient; name = l.name; 
 pub record IsListingHeld (l : ListedIrrep) : Type 0 where
   pub reportable : AreReportable l.quotient l.dim l.listing
   pub few : l.dim ≤ 24
+  pub numbered : length l.listing ≤ 16384
+  pub orders : All (λ d. length d.stabiliser ≤ order_of l.quotient) l.listing

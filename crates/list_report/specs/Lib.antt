@@ -16,6 +16,8 @@ pub mod StabiliserTextLaws
 pub mod StabiliserParts
 -- the report of `list`
 pub mod ListReport
+-- the pieces of a page of the report of `list`
+pub mod PagePieces
 -- what pages of the report of `list` obey
 pub mod PageLaws
 -- the irrep whose directions are listed
@@ -34,3 +36,7 @@ pub mod HeldForms
 pub mod HeldListings
 -- what is found for `list`, by the program's answer
 pub mod FoundListing
+-- what watchers are told of a page of a listing
+pub mod Telling
+-- the report of a told listing, and its pieces
+pub mod ToldPieces

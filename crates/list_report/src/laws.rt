@@ -11,6 +11,9 @@ ghost use Rattle.list_report.specs.PageLaws.{PagesJoin};
 ghost use Rattle.list_report.specs.RealForms.{RefusesForm, IsFormed};
 ghost use Rattle.list_report.specs.StabiliserTextLaws.{KeptRise};
 ghost use Rattle.list_report.specs.TwinLaws.{AreTwins};
+ghost use Rattle.std.specs.List.{concat};
+ghost use Rattle.list_report.specs.ToldPieces.{told_text, told_pieces};
+ghost use Rattle.list_report.specs.declared.told.ToldListing.{ToldListing};
 
 use class_list::{law_of_listings, law_of_pages};
 use cyclo24::K24;
@@ -44,6 +47,11 @@ pub fn law_of_report_pages()
 {
     law_of_pages::<K24>();
 }
+
+/// The pieces of the report on a told listing, joined, are its text.
+pub fn law_of_told_pieces()
+    ensures { (t : ToldListing) → concat (told_pieces t) ≡ told_text t }
+{}
 
 /// The translations of the lines `kept` of a direction rise.
 pub fn law_of_kept_lines()

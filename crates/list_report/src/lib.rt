@@ -14,15 +14,23 @@ mod laws;
 mod letters;
 mod listed;
 mod listing;
+mod page_pieces;
 mod realising;
 mod report;
 mod stabiliser_text;
 mod sums;
+mod telling;
+mod told;
 
 pub use choice::place_of;
 pub use closing::{closed, direction_order, directions, subspace_limit};
-pub use laws::{law_of_kept_lines, law_of_list, law_of_listing_steps, law_of_report_pages};
+pub use laws::{
+    law_of_kept_lines, law_of_list, law_of_listing_steps, law_of_report_pages, law_of_told_pieces,
+};
 pub use listed::{FormedIrrep, ListedIrrep};
 pub use listing::list_found;
+pub use page_pieces::{page_count, page_piece};
 pub use realising::{form_at, form_of};
 pub use report::{listed_text, push_page};
+pub use telling::list_told;
+pub use told::ToldListing;

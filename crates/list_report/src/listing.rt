@@ -6,8 +6,8 @@ ghost use Rattle.list_report.specs.Choice.{chosen_of};
 ghost use Rattle.list_report.specs.FoundListing.{FindsListing};
 ghost use Rattle.report_steps.specs.HeldFiles.{AreInducedHeld};
 ghost use Rattle.list_report.specs.HeldListings.{formed_by, formed_in, listed_in, IsFormedHeld, IsListingHeld, AreClosed, AreDirections};
-ghost use Rattle.list_report.specs.Closing.{IsListed};
-ghost use Rattle.list_report.specs.Listings.{AfterClosing, AfterForm, AfterChoice, IsListFound};
+ghost use Rattle.list_report.specs.Closing.{IsListed, AreFew};
+ghost use Rattle.list_report.specs.Listings.{AfterClosing, AfterForm, AfterChoice, IsListedThen};
 
 use crate::choice::place_of;
 use crate::closing::{closed, directions};
@@ -28,6 +28,7 @@ use std::sync::ledger::{Blank, Ledger};
 fn listed(formed: FormedIrrep, listing: Listing<K24>, after: u64, count: Option<u64>) -> ListedIrrep
     requires held { IsFormedHeld formed }
     requires directions { AreDirections (formed_in formed) listing }
+    requires few { AreFew (formed_in formed) (formed_in formed) }
     ensures listed { IsListed (formed_in formed) (listed_in result) }
     ensures held { IsListingHeld result }
     ensures after { result.after ≡ after }
@@ -62,7 +63,8 @@ fn after_closing<L: Ledger>(
 ) -> Result<Step<ListedIrrep>, NoMemory>
     requires held { IsFormedHeld formed }
     requires closed { AreClosed (action_of formed.form) spaces }
-    ensures { IfOk result (FindsListing (AfterClosing after count (formed_in formed))) }
+    requires few { AreFew (formed_in formed) (formed_in formed) }
+    ensures { IfOk result (FindsListing after count (λ next. AfterClosing next (formed_in formed))) }
 {
     match directions(alloc, &formed, spaces, steps)? {
         Step::Passed(listing) => Ok(Step::Passed(listed(formed, listing, after, count))),
@@ -82,7 +84,7 @@ fn after_form<L: Ledger>(
     requires name { blank.name ≡ L.name }
     requires parts { blank.parts ≡ L.parts }
     requires some { 0 < blank.parts }
-    ensures { IfOk result (FindsListing (AfterForm after count (formed_in formed))) }
+    ensures { IfOk result (FindsListing after count (λ next. AfterForm next (formed_in formed))) }
 {
     let mut steps = Steps::<L>::new(blank);
     match closed(alloc, &formed, &mut steps)? {
@@ -118,7 +120,7 @@ fn after_choice(
 ) -> Result<Step<ListedIrrep>, NoMemory>
     requires held { AreInducedHeld file }
     requires place { k < length file.divided.file.irreps }
-    ensures { (i : Irrep) → slice_get file.divided.file.irreps k ≡ Some i → IfOk result (FindsListing (AfterChoice after count (chosen_of file.divided i))) }
+    ensures { (i : Irrep) → slice_get file.divided.file.irreps k ≡ Some i → IfOk result (FindsListing after count (λ next. AfterChoice next (chosen_of file.divided i))) }
 {
     match form_at(alloc, &file, k)? {
         Step::Passed(form) => {
@@ -139,7 +141,7 @@ pub fn list_found(
     count: Option<u64>,
 ) -> Result<Step<ListedIrrep>, NoMemory>
     requires { AreInducedHeld file }
-    ensures { IfOk result (FindsListing (IsListFound wanted after count file.divided)) }
+    ensures { IfOk result (FindsListing after count (λ next. IsListedThen wanted next file.divided)) }
 {
     match place_of(file.divided.document().irreps(), &wanted) {
         Some(k) => after_choice(alloc, file, k, after, count),

@@ -99,8 +99,8 @@ fn push_direction(
     push_op_lines(alloc, text, quotient, direction.stabiliser())
 }
 
-// Adds the lines of the direction at place i under this number.
-fn push_place(
+/// Adds the lines of the direction at place i under this number.
+pub(crate) fn push_place(
     alloc: Global,
     text: &mut Text,
     quotient: &Quotient,
@@ -165,7 +165,7 @@ fn irrep_line(alloc: Global, name: &Name, dim: usize, order: usize) -> Result<Te
 }
 
 // The first three lines of a report.
-fn head_of_report(
+pub(crate) fn head_of_report(
     alloc: Global,
     format: u8,
     name: &Name,

@@ -1,12 +1,14 @@
-use Rattle.std.proofs.Common.{◌∙◌, ap, ◌++◌, List, ℕ}
-use Rattle.std.specs.Prelude.{codes, decimal}
-use Rattle.couple_report.proofs.TextLemmas.{lines-behind}
+use Rattle.std.proofs.Common.{◌≡◌, ◌∙◌, sym, subst, [], List, ℕ, Result, IfOk}
+use Rattle.std.proofs.lemmas.List.{length-map}
+use Rattle.cyclo24.specs.ExactK24.{k24_laws}
+use Rattle.cyclo24.specs.K24.{exact24}
+use Rattle.class_list.specs.Seen.{direction_of}
+use Rattle.couple_report.specs.CoupleReport.{couple_head}
 use Rattle.couple_report.proofs.couple_text.head_of.Goals as goal
 
 pub returns : goal.returns
 returns c =
     let x = c.args.found.now in
-    lines-behind (codes "isodist " ++ decimal x.format ++ codes " couple")
-    (codes "irreps " ++ x.name ++ codes " " ++ x.other ++ codes " dims " ++ decimal x.dim ++ codes " " ++ decimal x.other_dim ++ codes " order " ++ decimal c.args.order) (codes "total ") (decimal c.args.total) _ _ _ _ _
-    c.in_ok-text.ensures (c.in_ok-push.ensures.ok ∙ ap (λ (t : List ℕ). c.in_ok-text.text ++ t) (c.as_slice.ensures ∙ c.in_ok-irreps.ensures))
-    c.in_ok-push-2.ensures.ok c.in_ok-push_number.ensures.ok c.in_ok-push-3.ensures.ok
+    let total = c.len-total.ensures.value ∙ sym (length-map x.listing (direction_of k24_laws exact24)) in
+    let P : List ℕ → Type 0 = λ t. IfOk c.head_by.result (λ text. text ≡ t) in
+    subst P (λ j. couple_head x.format x.name x.other x.dim x.other_dim (c.order-order.ensures.value j) (total j) []) c.head_by.ensures

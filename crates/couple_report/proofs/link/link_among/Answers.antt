@@ -14,10 +14,10 @@ link_of_both-requires-clause-right c =
     let v = c.index-all-l.result in
     subst (λ (x : InducedView). IsInducedOf c.args.quotient.now x) (sym c.index-all-l.is) (c.requires.of c.args.l v c.requires.right)
 
-pub returns : goal.returns
-returns c format irreps i j each a b =
+pub returns-clause-answer : goal.returns-clause-answer
+returns-clause-answer c format irreps i j each a b =
     let q = c.args.quotient.now in
     let all = c.args.all.now in
     let v = c.index-all-k in
     let u = c.index-all-l in
-    c.link_of_both.ensures format i j (held-at q irreps all c.args.k i v.result each (slice_get_within irreps c.args.k i a) a v.is) (held-at q irreps all c.args.l j u.result each (slice_get_within irreps c.args.l j b) b u.is)
+    c.link_of_both.ensures.answer format i j (held-at q irreps all c.args.k i v.result each (slice_get_within irreps c.args.k i a) a v.is) (held-at q irreps all c.args.l j u.result each (slice_get_within irreps c.args.l j b) b u.is)

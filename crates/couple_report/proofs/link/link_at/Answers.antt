@@ -22,8 +22,8 @@ link_among-requires-clause-right c =
     let n = each-length (IsInducedHeld d.quotient) d.file.irreps c.args.file.now.irreps.items c.requires.held in
     subst (λ (m : ℕ). c.args.l < m) (n ∙ ap (λ (xs : List InducedView). length xs) (sym c.deref.ensures.value)) c.requires.right
 
-pub returns : goal.returns
-returns c i j a b =
+pub returns-clause-answer : goal.returns-clause-answer
+returns-clause-answer c i j a b =
     let d = c.args.file.now.divided in
     answers-moved d.file.format c.quotient.result.now d.quotient d.file.irreps c.deref.result.now c.args.file.now.irreps.items i j c.link_among.result c.quotient.ensures c.deref.ensures.value c.requires.held
-    (λ each. c.link_among.ensures d.file.format d.file.irreps i j each a b)
+    (λ each. c.link_among.ensures.answer d.file.format d.file.irreps i j each a b)

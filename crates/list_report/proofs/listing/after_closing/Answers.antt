@@ -1,7 +1,7 @@
-use Rattle.list_report.specs.FoundListing.{listed_text}
+use Rattle.list_report.specs.FoundListing.{listed_text, IsTheOne}
 use Rattle.list_report.specs.Closing.{RefusesNone, AreWideClasses, IsListed}
 use Rattle.list_report.specs.HeldListings.{formed_in, IsListingHeld}
-use Rattle.list_report.specs.Listings.{IsReported}
+use Rattle.report_steps.specs.declared.step.Step.TheVariants as step
 use Rattle.list_report.proofs.ListingLemmas.{listed-found}
 use Rattle.report_steps.specs.FindingLaws.{found-wide}
 use Rattle.list_report.proofs.listing.after_closing.Goals as goal
@@ -16,4 +16,4 @@ returns-in-Passed g c =
 
 pub returns-in-Refused : goal.returns-in-Refused
 returns-in-Refused g c =
-    found-wide listed_text IsListingHeld RefusesNone AreWideClasses IsListed (IsReported c.args.after c.args.count) (formed_in c.args.formed) c.in-Refused.refusal (rw c.in-Refused.is at c.in_ok-listing.ensures)
+    found-wide listed_text IsListingHeld RefusesNone AreWideClasses IsListed (IsTheOne c.args.after c.args.count (step.Refused c.in-Refused.refusal)) (formed_in c.args.formed) c.in-Refused.refusal (rw c.in-Refused.is at c.in_ok-listing.ensures)
