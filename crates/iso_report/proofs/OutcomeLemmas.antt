@@ -1,5 +1,5 @@
 -- The bytes of a source have one outcome.
-use Rattle.std.proofs.Common.{◌≡◌, ap, ◌∙◌, sym, subst, ℕ, ℤ, pos, ◌≤ℤ◌, ◌<ℤ◌, List, Option, Some, None, IfSome, unwrap_or, Bool, true, false, inl, inr, arith}
+use Rattle.std.proofs.Common.{◌≡◌, ap, ◌∙◌, sym, subst, ℕ, ℤ, pos, ◌≤ℤ◌, ◌<ℤ◌, List, Option, Some, None, IfSome, unwrap_or, Bool, true, false, arith}
 use Rattle.std.proofs.lemmas.Int.{ints}
 use Rattle.iso_text.specs.FileValue.{File}
 use Rattle.iso_text.specs.Ranges.{IsInRange}
@@ -13,12 +13,11 @@ use Rattle.iso_watch.specs.Watchers.{Watcher}
 use Rattle.list_report.specs.TellingLaws.{HasListTold}
 use Rattle.iso_report.specs.Jobs.{generated}
 use Rattle.report_steps.specs.Contexts.{Parented, Divided}
-use Rattle.report_steps.specs.declared.refusal.Refusal.{Refusal}
 use Rattle.report_steps.specs.Finding.{Finding, report}
 use Rattle.report_steps.specs.IrrepReport.{Facts, AreFacts}
 use Rattle.report_steps.specs.Stages.{RefusesText, IsRead, RefusesParent, IsParented, RefusesPhases, HavePhases, RefusesOrder, IsDivided, RefusesReps, AreWideReps, HaveReps, RefusesDimensions, AreWideInduced, HaveInduced}
-use Rattle.report_steps.specs.StepLaws.{IsSingle, IsSingleAt, single-at, FindsOneAt, After-single-at, IsNoWide}
-use Rattle.report_steps.specs.Steps.{After, never}
+use Rattle.report_steps.specs.StepLaws.{IsSingle, IsSingleAt, single-at, FindsOneAt, After-single-at, After-map, IsNoWide}
+use Rattle.report_steps.specs.Steps.{never}
 use Rattle.mode_report.specs.Atoms.{RefusesAtoms}
 use Rattle.mode_report.specs.DirectionFound.{IsFoundAlong}
 use Rattle.amp_report.specs.AmpsFound.{AreAmpsFound}
@@ -70,21 +69,15 @@ abbrev HasFound : Job → List Watcher → Divided → Finding → Type 0
 HasFound i ws d f = (new : List Watcher) × IsFound i ws new d f
 
 module _ (P Q : Divided → Finding → Type 0) (m : (d : Divided) (f : Finding) → P d f → Q d f) where
-  after-map : {A B : Type 0} (refuses : A → Refusal → Type 0) (wide : A → ℕ → Type 0) (passes : A → B → Type 0) (p q : B → Finding → Type 0) → ((b : B) (f : Finding) → p b f → q b f)
-      → (a : A) (f : Finding) → After refuses wide passes p a f → After refuses wide passes q a f
-  after-map refuses wide passes p q k a f (inl h) = inl h
-  after-map refuses wide passes p q k a f (inr (inl h)) = inr (inl h)
-  after-map refuses wide passes p q k a f (inr (inr (b, h, w))) = inr (inr (b, h, k b f w))
-
   -- what is found in the bytes of a file, by what is found behind all steps
   found-map : (bytes : List ℕ) (f : Finding) → IsFoundIn P bytes f → IsFoundIn Q bytes f
   found-map =
-      after-map RefusesText never IsRead (AfterText P) (AfterText Q)
-      (after-map RefusesParent never IsParented (AfterParent P) (AfterParent Q)
-      (after-map RefusesPhases never HavePhases (AfterPhases P) (AfterPhases Q)
-      (after-map RefusesOrder never IsDivided (AfterOrder P) (AfterOrder Q)
-      (after-map RefusesReps AreWideReps HaveReps (AfterReps P) (AfterReps Q)
-      (after-map RefusesDimensions AreWideInduced HaveInduced P Q m)))))
+      After-map RefusesText never IsRead (AfterText P) (AfterText Q)
+      (After-map RefusesParent never IsParented (AfterParent P) (AfterParent Q)
+      (After-map RefusesPhases never HavePhases (AfterPhases P) (AfterPhases Q)
+      (After-map RefusesOrder never IsDivided (AfterOrder P) (AfterOrder Q)
+      (After-map RefusesReps AreWideReps HaveReps (AfterReps P) (AfterReps Q)
+      (After-map RefusesDimensions AreWideInduced HaveInduced P Q m)))))
 
 module _ (s : AreSettled) (j : Job) (ws : List Watcher) where
   module _ (d : Divided) (h : IsQuotient d.quotient) (small : HasSmallTolerance d.file) where

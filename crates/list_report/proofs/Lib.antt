@@ -15,5 +15,6 @@ pub mod PageLemmas
 pub mod PieceLemmas
 pub mod RealFormLemmas
 pub mod RealisingLemmas
-pub mod TermLemmas
 pub mod TellingLemmas
+pub mod TermLemmas
+pub mod ToldOneLemmas

@@ -38,5 +38,7 @@ pub mod HeldListings
 pub mod FoundListing
 -- what watchers are told of a page of a listing
 pub mod Telling
+-- what a listing that watchers are told of obeys
+pub mod TellingLaws
 -- the report of a told listing, and its pieces
 pub mod ToldPieces

@@ -1,5 +1,5 @@
 // Laws over the definitions, as contracts of functions that do nothing.
-ghost use Rattle.std.specs.Prelude.{◌≡◌, ℕ, List, Option};
+ghost use Rattle.std.specs.Prelude.{◌≡◌, ℕ, Bool, List, Option};
 ghost use Rattle.super_group.specs.Quotient.{IsQuotient};
 ghost use Rattle.report_steps.specs.Contexts.{Divided};
 ghost use Rattle.report_steps.specs.StepLaws.{IsSingleAt, IsSingleFor, FindsOneAt};
@@ -12,11 +12,14 @@ ghost use Rattle.list_report.specs.RealForms.{RefusesForm, IsFormed};
 ghost use Rattle.list_report.specs.StabiliserTextLaws.{KeptRise};
 ghost use Rattle.list_report.specs.TwinLaws.{AreTwins};
 ghost use Rattle.std.specs.List.{concat};
+ghost use Rattle.iso_watch.specs.Watchers.{Watcher};
+ghost use Rattle.list_report.specs.TellingLaws.{HasListTold};
 ghost use Rattle.list_report.specs.ToldPieces.{told_text, told_pieces};
 ghost use Rattle.list_report.specs.declared.told.ToldListing.{ToldListing};
 
 use class_list::{law_of_listings, law_of_pages};
 use cyclo24::K24;
+use iso_watch::law_of_told_pages;
 use report_steps::law_of_irreps;
 
 /// Each step of a listing has one answer: the wanted irrep is one, its real forms agree, and so do
@@ -38,6 +41,15 @@ pub fn law_of_list()
 {
     law_of_irreps();
     law_of_listings::<K24>();
+}
+
+/// What `list` finds for a file and watchers is one, besides numbers that pass their bound.
+pub fn law_of_list_told()
+    ensures { (d : Divided) → IsQuotient d.quotient → (wanted : Option (List ℕ)) (after : ℕ) (count : Option ℕ) (tally : Bool) (ws : List Watcher) → FindsOneAt (HasListTold wanted after count tally ws) d }
+{
+    law_of_irreps();
+    law_of_listings::<K24>();
+    law_of_told_pages();
 }
 
 /// The lines of the directions of a page, followed by those of the page behind it, are those of one

@@ -25,7 +25,8 @@ mod told;
 pub use choice::place_of;
 pub use closing::{closed, direction_order, directions, subspace_limit};
 pub use laws::{
-    law_of_kept_lines, law_of_list, law_of_listing_steps, law_of_report_pages, law_of_told_pieces,
+    law_of_kept_lines, law_of_list, law_of_list_told, law_of_listing_steps, law_of_report_pages,
+    law_of_told_pieces,
 };
 pub use listed::{FormedIrrep, ListedIrrep};
 pub use listing::list_found;

@@ -4,6 +4,7 @@
 -- After-single: one finding behind a step with one answer, where no family of numbers is wide
 -- IsNoWide f: the finding is no number that passes its bound
 -- After-single-at: one finding behind a step with one answer at a, besides such numbers
+-- After-map: what is found behind a step, by what else is found behind it
 -- IsSingleFor refuses passes a b: a step has one answer at a and b, but for what passes
 -- After-single-for: one finding behind such a step at a and at b, besides such numbers
 use Rattle.std.proofs.Common.{◌≡◌, ◌≢◌, sym, ap, ◌∙◌, subst, ℕ, inl, inr}
@@ -62,6 +63,13 @@ After-single-at refuses wide passes next a s n f g (inr (inr (b, p, k))) (inr (i
 After-single-at {A} {B} refuses wide passes next a s n f g (inr (inr (b, p, k))) (inr (inr (c, q, m))) u v =
     let P : B → Type 0 = λ x. next x f in
     n c q f g (subst P (s.value b c p q) k) m u v
+
+-- what is found behind a step, by what else is found behind it
+pub After-map : {A B : Type 0} (refuses : A → Refusal → Type 0) (wide : A → ℕ → Type 0) (passes : A → B → Type 0) (p q : B → Finding → Type 0) → ((b : B) (f : Finding) → p b f → q b f)
+    → (a : A) (f : Finding) → After refuses wide passes p a f → After refuses wide passes q a f
+After-map refuses wide passes p q k a f (inl h) = inl h
+After-map refuses wide passes p q k a f (inr (inl h)) = inr (inl h)
+After-map refuses wide passes p q k a f (inr (inr (b, h, w))) = inr (inr (b, h, k b f w))
 
 -- what next finds at b and at c is one, besides numbers that pass their bound
 abbrev pub FindsOneFor : {B : Type 0} → (B → Finding → Type 0) → B → B → Type 0
