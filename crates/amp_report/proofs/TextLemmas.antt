@@ -132,10 +132,3 @@ told-at irreps (x ∷ orbits) [] rows i o m a d s e l f k = absurd (omega arith)
 told-at irreps (x ∷ orbits) (y ∷ all) [] i o m a d s e l f k = absurd (omega arith)
 told-at irreps (x ∷ orbits) (y ∷ all) (z ∷ rows) zero o m a d s e l f k = λ j. told_of irreps (sym (same_Some x o s) j) (e j) (f j)
 told-at irreps (x ∷ orbits) (y ∷ all) (z ∷ rows) (suc i) o m a d s e l f k = told-at irreps orbits all rows i o m a d s e (omega arith) f (omega arith)
-
-pub told-length : (irreps : List IrrepText) (orbits : List OrbitView) (all : List ModesView) (rows : List (List K24)) → length orbits ≡ length all → length all ≡ length rows → length (told_in irreps orbits all rows) ≡ length all
-told-length irreps [] [] rows e f = refl
-told-length irreps [] (m ∷ all) rows e f = absurd (omega arith)
-told-length irreps (o ∷ orbits) [] rows e f = refl
-told-length irreps (o ∷ orbits) (m ∷ all) [] e f = absurd (omega arith)
-told-length irreps (o ∷ orbits) (m ∷ all) (a ∷ rows) e f = ap suc (told-length irreps orbits all rows (omega arith) (omega arith))

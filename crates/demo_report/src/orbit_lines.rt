@@ -35,7 +35,12 @@ fn push_orbit(
 
 /// The line of orbit i under its number in the report, by its modes. Condition: there are modes for each
 /// orbit. Errors: want of memory.
-pub fn orbit_piece(alloc: Global, orbits: &Orbits, all: &[Modes], i: usize) -> Result<Text, NoMemory>
+pub fn orbit_piece(
+    alloc: Global,
+    orbits: &Orbits,
+    all: &[Modes],
+    i: usize,
+) -> Result<Text, NoMemory>
     requires held { Each HasSizeOf orbits.now all.now }
     requires orbit { i < length all.now }
     ensures { IfOk result (λ text. (irreps : List IrrepText) → slice_get (map orbit_line (enumerate_from 1 (told_in irreps orbits.now all.now))) i ≡ Some text) }

@@ -1,11 +1,16 @@
-// What is found settled, as contracts of functions that do nothing.
+// Laws over the definitions, as contracts of functions that do nothing.
+ghost use Rattle.std.specs.Prelude.{◌≡◌};
+ghost use Rattle.std.specs.List.{concat};
 ghost use Rattle.super_group.specs.Quotient.{IsQuotient};
 ghost use Rattle.report_steps.specs.Contexts.{Divided};
 ghost use Rattle.report_steps.specs.StepLaws.{FindsOneAt};
 ghost use Rattle.extra_modes.specs.declared.nature.Nature.{Nature};
 ghost use Rattle.extra_report.specs.ExtraFound.{AreExtraFound};
 ghost use Rattle.extra_report.specs.ExtraAmpsFound.{AreExtraAmpsFound};
+ghost use Rattle.extra_report.specs.ExtraAmpsPieces.{extra_amps_pieces};
+ghost use Rattle.extra_report.specs.FoundExtraAmps.{extra_amps_of};
 
+use crate::amps_found::FoundExtraAmps;
 use cyclo24::K24;
 use extra_modes::{law_of_amounts, law_of_extra_spaces};
 use mode_project::{law_of_amplitudes, law_of_one_basis};
@@ -31,3 +36,8 @@ pub fn law_of_extra_amps_found()
     law_of_one_basis::<K24>();
     law_of_irreps();
 }
+
+/// The pieces of the report of amplitudes, one behind the other, are the report.
+pub fn law_of_extra_amps_pieces()
+    ensures { (f : FoundExtraAmps) → concat (extra_amps_pieces f) ≡ extra_amps_of f }
+{}

@@ -6,6 +6,7 @@
 #![tactic(auto)]
 
 mod amps_found;
+mod amps_report;
 mod found;
 mod gathered;
 mod head;
@@ -13,6 +14,6 @@ mod laws;
 mod orbit_modes;
 mod rows;
 
-pub use amps_found::{FoundExtraAmps, extra_amps_found, extra_amps_report};
+pub use amps_found::{FoundExtraAmps, extra_amps_found};
 pub use found::{FoundExtra, extra_found, extra_report};
-pub use laws::{law_of_extra_amps_found, law_of_extra_found};
+pub use laws::{law_of_extra_amps_found, law_of_extra_amps_pieces, law_of_extra_found};

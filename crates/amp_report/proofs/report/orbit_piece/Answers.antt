@@ -6,9 +6,10 @@ use Rattle.cyclo24.specs.declared.k24.K24.{K24}
 use Rattle.mode_project.specs.ModesView.{ModesView}
 use Rattle.report_buffer.specs.PieceLaws.{numbered-piece}
 use Rattle.report_steps.specs.EachLaws.{each-at, each-length}
+use Rattle.amp_report.specs.AmpsHeldLaws.{told-length}
 use Rattle.amp_report.specs.AmpsReport.{orbit_text}
 use Rattle.amp_report.specs.Held.{HasRow, told_of, told_in}
-use Rattle.amp_report.proofs.TextLemmas.{told-at, told-length}
+use Rattle.amp_report.proofs.TextLemmas.{told-at}
 use Rattle.amp_report.proofs.report.orbit_piece.Goals as goal
 
 pub bounds-rows-i : goal.bounds-rows-i

@@ -1,9 +1,9 @@
 use Rattle.std.proofs.Common.{arith, length, suc, ◌≡◌}
 use Rattle.report_buffer.specs.PieceLaws.{numbered-count}
 use Rattle.report_steps.specs.EachLaws.{each-length}
+use Rattle.amp_report.specs.AmpsHeldLaws.{told-length}
 use Rattle.amp_report.specs.AmpsReport.{orbit_text}
 use Rattle.amp_report.specs.Held.{HasRow, told_in}
-use Rattle.amp_report.proofs.TextLemmas.{told-length}
 use Rattle.amp_report.proofs.report.FoundAmplitudesReport.count.Goals as goal
 
 pub returns : goal.returns

@@ -3,9 +3,9 @@ use Rattle.std.proofs.lemmas.Result.{IfOk-weaker}
 use Rattle.report_buffer.specs.PieceLaws.{behind-first, numbered-count}
 use Rattle.report_steps.specs.EachLaws.{each-length}
 use Rattle.amp_report.specs.AmpsPieces.{orbit_pieces}
+use Rattle.amp_report.specs.AmpsHeldLaws.{told-length}
 use Rattle.amp_report.specs.AmpsReport.{head_text, orbit_text}
 use Rattle.amp_report.specs.Held.{HasRow, told_in}
-use Rattle.amp_report.proofs.TextLemmas.{told-length}
 use Rattle.amp_report.proofs.report.FoundAmplitudesReport.piece.Goals as goal
 
 pub found_piece-requires-clause-orbit : goal.found_piece-requires-clause-orbit
