@@ -1,6 +1,5 @@
 -- What the answers to pairs of irreps say.
 use Rattle.std.proofs.Common.{◌≡◌, refl, sym, ap, ◌∙◌, subst, inl, inr, ◌↔◌, ℕ, zero, suc, ◌+◌, ◌<◌, ◌≤◌, Bool, true, List, [], ◌∷◌, ◌++◌, length, take, get_or, map, arith}
-use Rattle.std.specs.List.{All}
 use Rattle.std.specs.Prelude.{Contains}
 use Rattle.std.proofs.lemmas.List.{take_more, take_all, get_or_default, get_or-map, length-map}
 use Rattle.cyclo24.specs.declared.k24.K24.{K24}
@@ -24,7 +23,6 @@ use Rattle.mode_report.specs.AllModes.{name_at}
 use Rattle.mode_report.specs.Held.{RefusesNothing}
 use Rattle.mode_report.specs.IrrepWeights.{IsWeightOf, AreWeightsOf}
 use Rattle.apart_report.specs.ApartFound.{Weighted, weighted, pairs_of, IsToldOf, RefusesNone, AreWidePairs, ArePairsTold}
-use Rattle.apart_report.specs.ApartReport.{ToldPair}
 use Rattle.apart_report.specs.Held.{number_pairs, AreBelow, weights_at, IsWidePair, IsAnswer, IsWideSomePair, told_in}
 use Rattle.apart_report.proofs.PairLemmas.{pairs-by-number, numbers-below}
 

@@ -2,11 +2,10 @@
 use Rattle.std.proofs.Common.{◌≡◌, refl, sym, ap, ◌∙◌, subst, ℕ, zero, suc, ◌+◌, ◌<◌, ◌≤◌, Bool, false, List, [], ◌∷◌, ◌++◌, length, take, get_or, flat_map, arith, append_assoc}
 use Rattle.std.proofs.lemmas.Grind.{flat_map-append}
 use Rattle.std.proofs.lemmas.List.{append-nil, take_more, take_all}
-use Rattle.std.specs.Prelude.{codes, decimal}
-use Rattle.iso_text.specs.Lines.{line}
+use Rattle.std.specs.List.{concat}
 use Rattle.iso_text.specs.declared.sections.IrrepText.{IrrepText}
 use Rattle.mode_report.specs.AllModes.{name_at}
-use Rattle.apart_report.specs.ApartReport.{ToldPair, pair_line, apart_text}
+use Rattle.apart_report.specs.ApartReport.{ToldPair, pair_line}
 use Rattle.apart_report.specs.Held.{AreBelow, number_pairs, told_in}
 use Rattle.apart_report.proofs.PairLemmas.{numbers-below}
 
@@ -61,10 +60,9 @@ below-found count n pairs e f =
     let P : List (ℕ × ℕ) → Type 0 = λ ps. AreBelow count ps in
     subst P (sym (e ∙ ap number_pairs f)) (numbers-below count)
 
--- the first line, and the lines of all pairs
-pub report-is : (format : ℕ) (irreps : List IrrepText) (n : ℕ) (pairs : List (ℕ × ℕ)) (answers : List Bool) (head text : List ℕ) → head ≡ line (codes "isodist " ++ decimal format ++ codes " apart") []
-    → text ≡ head ++ flat_map pair_line (told_in irreps pairs answers) → pairs ≡ number_pairs n → text ≡ apart_text format (told_in irreps (number_pairs n) answers)
-report-is format irreps n pairs answers head text a b e = b ∙ (λ i. a i ++ flat_map pair_line (told_in irreps (e i) answers))
+-- two pieces, one behind the other
+pub two-pieces : (a b : List ℕ) → concat (a ∷ b ∷ []) ≡ a ++ b
+two-pieces a b = ap (λ t. a ++ t) (append-nil b)
 
 pub pairs-are : (n count : ℕ) (pairs : List (ℕ × ℕ)) → pairs ≡ number_pairs n → n ≡ count → pairs ≡ number_pairs count
 pairs-are n count pairs e f = e ∙ ap number_pairs f

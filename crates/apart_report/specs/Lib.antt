@@ -8,3 +8,5 @@ pub mod ApartFound
 pub mod Held
 -- what is found for `apart`, by the program's answer
 pub mod FoundPairs
+-- the pieces of the report of `apart`
+pub mod ApartPieces

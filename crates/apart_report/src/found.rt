@@ -1,5 +1,5 @@
 // What `apart` finds in a file.
-ghost use Rattle.std.specs.Prelude.{◌≡◌, IfOk};
+ghost use Rattle.std.specs.Prelude.{IfOk};
 ghost use Rattle.report_steps.specs.FoundBy.{FindsBy};
 ghost use Rattle.report_steps.specs.HeldFiles.{AreInducedHeld};
 ghost use Rattle.apart_report.specs.ApartFound.{AreApartFound};
@@ -7,8 +7,7 @@ ghost use Rattle.apart_report.specs.FoundPairs.{ArePairsHeld, apart_of};
 
 use crate::answers::all_answers;
 use crate::pairs::pairs_below;
-use crate::report::report_of;
-use iso_text::{NoMemory, Text};
+use iso_text::NoMemory;
 use report_steps::{InducedFile, Step};
 use std::alloc::Global;
 
@@ -31,13 +30,4 @@ pub fn apart_found(alloc: Global, file: InducedFile) -> Result<Step<FoundPairs>,
         Step::Passed(answers) => Ok(Step::Passed(FoundPairs { file, answers })),
         Step::Refused(refusal) => Ok(Step::Refused(refusal)),
     }
-}
-
-/// The report of pairs. Condition: there is an answer for each pair. Errors: want of memory.
-pub fn apart_report(alloc: Global, found: &FoundPairs) -> Result<Text, NoMemory>
-    requires { ArePairsHeld found.now }
-    ensures { IfOk result (λ text. text ≡ apart_of found.now) }
-{
-    let document = found.file.divided.document();
-    report_of(alloc, document.format(), document.irreps(), &found.answers)
 }

@@ -11,5 +11,5 @@ mod laws;
 mod pairs;
 mod report;
 
-pub use found::{FoundPairs, apart_found, apart_report};
-pub use laws::law_of_apart_found;
+pub use found::{FoundPairs, apart_found};
+pub use laws::{law_of_apart_found, law_of_apart_pieces};

@@ -1,16 +1,19 @@
-// The report of pairs.
-ghost use Rattle.std.specs.Prelude.{◌≡◌, ◌++◌, if◌then◌else◌, [], IfOk, OnOk, codes, decimal, flat_map, length};
-ghost use Rattle.iso_text.specs.Lines.{line};
-ghost use Rattle.apart_report.specs.ApartReport.{pair_line, apart_text};
-ghost use Rattle.apart_report.specs.Held.{AreBelow, number_pairs, told_in};
+// The report of pairs, in pieces.
+ghost use Rattle.std.specs.Prelude.{◌≡◌, ◌++◌, if◌then◌else◌, IfOk, OnOk, codes, flat_map, length};
+ghost use Rattle.apart_report.specs.ApartPieces.{apart_head, pair_lines};
+ghost use Rattle.apart_report.specs.ApartReport.{pair_line};
+ghost use Rattle.apart_report.specs.FoundPairs.{ArePairsHeld};
+ghost use Rattle.apart_report.specs.Held.{AreBelow, told_in};
 
+use crate::found::FoundPairs;
 use crate::pairs::pairs_below;
 use iso_text::{IrrepText, NoMemory, Text};
+use report_buffer::Report;
 use std::alloc::Global;
 
 // The first line, with the file's format.
 fn head(alloc: Global, format: u8) -> Result<Text, NoMemory>
-    ensures { IfOk result (λ text. text ≡ line (codes "isodist " ++ decimal format ++ codes " apart") []) }
+    ensures { IfOk result (λ text. text ≡ apart_head format) }
 {
     let mut text = Text::new(alloc);
     text.push(b"isodist ")?;
@@ -39,39 +42,56 @@ fn push_pair(text: &mut Text, name: &[u8], other: &[u8], apart: bool) -> Result<
     text.push(b"\n")
 }
 
-// Adds the lines of pairs, with an answer for each.
-fn push_answers(
-    text: &mut Text,
+// The lines of pairs, with an answer for each.
+fn lines_of(
+    alloc: Global,
     irreps: &[IrrepText],
     pairs: &[(usize, usize)],
     answers: &[bool],
-) -> Result<(), NoMemory>
+) -> Result<Text, NoMemory>
     requires below { AreBelow (length irreps.now) pairs.now }
     requires count { length answers.now ≡ length pairs.now }
-    ensures { OnOk result (text.new ≡ text.old ++ flat_map pair_line (told_in irreps.now pairs.now answers.now)) }
+    ensures { IfOk result (λ text. text ≡ flat_map pair_line (told_in irreps.now pairs.now answers.now)) }
 {
+    let mut text = Text::new(alloc);
     for k in 0..answers.len() {
         let i = pairs[k].0;
         let j = pairs[k].1;
         let name = irreps[i].name.as_slice();
         let other = irreps[j].name.as_slice();
-        push_pair(text, name, other, answers[k])?;
+        push_pair(&mut text, name, other, answers[k])?;
     }
-    Ok(())
+    Ok(text)
 }
 
-/// The report of all pairs of the irreps of a file, with an answer for each.
-pub(crate) fn report_of(
-    alloc: Global,
-    format: u8,
-    irreps: &[IrrepText],
-    answers: &[bool],
-) -> Result<Text, NoMemory>
-    requires { length answers.now ≡ length (number_pairs (length irreps.now)) }
-    ensures { IfOk result (λ text. text ≡ apart_text format (told_in irreps.now (number_pairs (length irreps.now)) answers.now)) }
+// The lines of all pairs.
+fn pairs_text(alloc: Global, found: &FoundPairs) -> Result<Text, NoMemory>
+    requires { ArePairsHeld found.now }
+    ensures { IfOk result (λ text. text ≡ pair_lines found.now) }
 {
+    let irreps = found.file.divided.document().irreps();
     let pairs = pairs_below(alloc, irreps.len())?;
-    let mut text = head(alloc, format)?;
-    push_answers(&mut text, irreps, &pairs, answers)?;
-    Ok(text)
+    lines_of(alloc, irreps, &pairs, &found.answers)
+}
+
+/// The report of pairs: the first line, and the lines of all pairs. Condition: there is an answer for
+/// each pair. Errors: want of memory.
+impl Report for FoundPairs {
+    ghost use Rattle.apart_report.specs.ApartPieces.{apart_pieces};
+    ghost use Rattle.apart_report.specs.FoundPairs.{ArePairsHeld};
+
+    ghost fits = { ArePairsHeld };
+
+    ghost pieces = { apart_pieces };
+
+    fn count(&self) -> usize {
+        2
+    }
+
+    fn piece(&self, alloc: Global, number: usize) -> Result<Text, NoMemory> {
+        if number == 0 {
+            return head(alloc, self.file.divided.document().format());
+        }
+        pairs_text(alloc, self)
+    }
 }

@@ -1,11 +1,16 @@
 // What is found settled, as contracts of functions that do nothing.
+ghost use Rattle.std.specs.Prelude.{◌≡◌};
+ghost use Rattle.std.specs.List.{concat};
 ghost use Rattle.super_group.specs.Quotient.{IsQuotient};
 ghost use Rattle.report_steps.specs.Contexts.{Divided};
 ghost use Rattle.report_steps.specs.StepLaws.{FindsOneAt};
 ghost use Rattle.extra_modes.specs.declared.nature.Nature.{Nature};
 ghost use Rattle.extra_report.specs.ExtraFound.{AreExtraFound};
 ghost use Rattle.extra_report.specs.ExtraAmpsFound.{AreExtraAmpsFound};
+ghost use Rattle.extra_report.specs.ExtraPieces.{extra_pieces};
+ghost use Rattle.extra_report.specs.FoundExtra.{extra_of};
 
+use crate::report::ExtraReport;
 use cyclo24::K24;
 use extra_modes::{law_of_amounts, law_of_extra_spaces};
 use mode_project::{law_of_amplitudes, law_of_one_basis};
@@ -31,3 +36,8 @@ pub fn law_of_extra_amps_found()
     law_of_one_basis::<K24>();
     law_of_irreps();
 }
+
+/// The pieces of the report of modes, one behind the other, are the report.
+pub fn law_of_extra_pieces()
+    ensures { (r : ExtraReport) → concat (extra_pieces r) ≡ extra_of r.found }
+{}

@@ -7,7 +7,6 @@ use Rattle.std.proofs.lemmas.Option.{slice_get-get_or, slice_get_within}
 use Rattle.cyclo24.specs.declared.k24.K24.{K24}
 use Rattle.iso_text.specs.declared.sections.IrrepText.{IrrepText}
 use Rattle.lin_alg.specs.Matrix.{MatrixView}
-use Rattle.report_steps.specs.EachLaws.{each-length}
 use Rattle.report_steps.specs.IrrepSteps.{Each}
 use Rattle.wyckoff.specs.Orbit.{OrbitView}
 use Rattle.mode_report.specs.DirectionHeld.{AreFit, along_of, along_in, named_matrices}

@@ -1,7 +1,5 @@
 -- The lines of the modes that the program holds, and of the orbits.
-use Rattle.std.proofs.Common.{◌≡◌, refl, sym, ap, ◌∙◌, ℕ, zero, suc, ◌+◌, ◌<◌, ◌≤◌, List, [], ◌∷◌, ◌++◌, length, take, get_or, map, flat_map, arith, append_assoc, Some, slice_get}
-use Rattle.std.specs.List.{enumerate_from}
-use Rattle.std.proofs.lemmas.List.{get_or-map}
+use Rattle.std.proofs.Common.{◌≡◌, refl, sym, ap, ◌∙◌, ℕ, zero, suc, ◌<◌, ◌≤◌, List, [], ◌∷◌, length, get_or, arith, Some, slice_get}
 use Rattle.std.proofs.lemmas.Option.{get_or_from_slice_get, same_Some}
 use Rattle.cyclo24.specs.declared.k24.K24.{K24}
 use Rattle.cyclo24.specs.ExactK24.{Exact24, k24_laws}
@@ -12,7 +10,6 @@ use Rattle.wyckoff.specs.Orbit.{OrbitView}
 use Rattle.mode_project.specs.ModesView.{ModesView}
 use Rattle.mode_report.specs.AllModes.{name_at, named}
 use Rattle.mode_report.specs.Held.{told_of, told_in}
-use Rattle.mode_report.specs.ReportLaws.{numbered-append, numbered-take}
 use Rattle.mode_report.specs.Told.{OrbitModes}
 
 pub name-inside : (irreps : List IrrepText) (j : ℕ) (d : IrrepText) → j < length irreps → (get_or irreps j d).name ≡ name_at irreps j

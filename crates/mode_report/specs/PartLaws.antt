@@ -3,7 +3,7 @@
 -- parts-count: there are as many parts as pieces
 -- part-known, piece-told: piece number n is the text of part number n
 -- pieces-joined: the pieces, one behind the other, are the lines of all orbits behind what stands in front
-use Rattle.std.proofs.Common.{◌≡◌, refl, sym, ap, ◌∙◌, subst, ℕ, zero, suc, ◌+◌, ◌<◌, List, [], ◌∷◌, ◌++◌, length, get_or, map, flat_map, arith, Some, slice_get}
+use Rattle.std.proofs.Common.{◌≡◌, refl, sym, ap, ◌∙◌, subst, ℕ, suc, ◌+◌, ◌<◌, List, [], ◌∷◌, ◌++◌, length, get_or, map, flat_map, arith, Some, slice_get}
 use Rattle.std.specs.List.{concat, enumerate_from, range_with_len}
 use Rattle.std.proofs.lemmas.List.Folds.{concat-append}
 use Rattle.std.proofs.lemmas.Option.{same_Some, slice_get-get_or}
@@ -41,11 +41,11 @@ module _ (e : AtomEntries) (front : List ℕ) (told : List OrbitModes) where
   orbit-part i o s = ((o, s, refl), mode-parts i o s o.modes 0 (λ j. let z : 0 + j ≡ j = omega arith in ap (slice_get o.modes) z))
 
   orbit-parts : (rest : List OrbitModes) (i : ℕ) → ((j : ℕ) → slice_get told (i + j) ≡ slice_get rest j)
-      → Each (IsPart e front told) (flat_map orbit_parts (enumerate_from i (mode_counts rest))) (flat_map (orbit_pieces_by e) _by e (enumerate_from (i + 1) rest))
+      → Each (IsPart e front told) (flat_map orbit_parts (enumerate_from i (mode_counts rest))) (flat_map (orbit_pieces_by e) (enumerate_from (i + 1) rest))
   orbit-parts [] i h = tt
   orbit-parts (o ∷ rest) i h =
       let z : i ≡ i + 0 = omega arith in
-      each-behind (IsPart e front told) (orbit_parts (i, length o.modes)) (flat_map orbit_parts (enumerate_from (i + 1) (mode_counts rest))) (orbit_pieces_by e (i + 1, o)) (flat_map (orbit_pieces_by e) _by e (enumerate_from (i + 1 + 1) rest))
+      each-behind (IsPart e front told) (orbit_parts (i, length o.modes)) (flat_map orbit_parts (enumerate_from (i + 1) (mode_counts rest))) (orbit_pieces_by e (i + 1, o)) (flat_map (orbit_pieces_by e) (enumerate_from (i + 1 + 1) rest))
       (orbit-part i o (ap (slice_get told) z ∙ h 0)) (orbit-parts rest (i + 1) (λ j. let s : i + 1 + j ≡ i + suc j = omega arith in ap (slice_get told) s ∙ h (suc j)))
 
   -- the parts of a report and its pieces
@@ -84,10 +84,10 @@ module _ (e : AtomEntries) (front : List ℕ) (told : List OrbitModes) where
 -- ---- the pieces, one behind the other
 
 module _ (e : AtomEntries) where
-  orbits-joined : (n : ℕ) (told : List OrbitModes) → concat (flat_map (orbit_pieces_by e) _by e (enumerate_from n told)) ≡ flat_map (orbit_text_by e) (enumerate_from n told)
+  orbits-joined : (n : ℕ) (told : List OrbitModes) → concat (flat_map (orbit_pieces_by e) (enumerate_from n told)) ≡ flat_map (orbit_text_by e) (enumerate_from n told)
   orbits-joined n [] = refl
   orbits-joined n (o ∷ told) =
-      concat-append (orbit_pieces_by e (n, o)) (flat_map (orbit_pieces_by e) _by e (enumerate_from (n + 1) told))
+      concat-append (orbit_pieces_by e (n, o)) (flat_map (orbit_pieces_by e) (enumerate_from (n + 1) told))
       ∙ (λ j. (orbit_front (n, o) ++ made-joined (mode_text_by e (length o.places)) (enumerate_from 1 o.modes) j) ++ orbits-joined (n + 1) told j)
 
   pub pieces-joined : (front : List ℕ) (told : List OrbitModes) → concat (told_pieces_by e front told) ≡ front ++ orbits_text_by e told

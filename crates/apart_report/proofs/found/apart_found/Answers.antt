@@ -1,5 +1,4 @@
-use Rattle.std.proofs.Common.{◌≡◌, ◌∙◌, ℕ, List, Bool, inr, refl, sym, subst, length, map, arith}
-use Rattle.induce.specs.Apart.{weights_by}
+use Rattle.std.proofs.Common.{◌≡◌, ◌∙◌, ℕ, List, inr, refl, subst, length, arith}
 use Rattle.report_steps.specs.EachLaws.{each-length}
 use Rattle.report_steps.specs.FindingLaws.{found-wide}
 use Rattle.report_steps.specs.Held.{IsInducedHeld}

@@ -1,4 +1,4 @@
-use Rattle.std.proofs.Common.{◌≡◌, ◌<◌, ◌≤◌, length, arith}
+use Rattle.std.proofs.Common.{◌<◌, ◌≤◌, length, arith}
 use Rattle.mode_report.proofs.NamedRowLemmas.{count-next, count-whole}
 use Rattle.mode_report.proofs.along_pieces.count_of.Goals as goal
 

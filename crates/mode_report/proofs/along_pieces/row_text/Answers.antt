@@ -1,4 +1,4 @@
-use Rattle.std.proofs.Common.{◌≡◌, ◌∙◌, ℕ, ◌*◌, ◌++◌, List, length, ap, sym}
+use Rattle.std.proofs.Common.{◌∙◌, ℕ, ◌++◌, List, length, ap, sym}
 use Rattle.cyclo24.specs.declared.k24.K24.{K24}
 use Rattle.cyclo24.specs.ExactK24.{Exact24, k24_laws}
 use Rattle.cyclo24.specs.K24.{exact24}

@@ -1,4 +1,4 @@
-use Rattle.std.proofs.Common.{◌≡◌, ◌∙◌, ap, ◌<◌, List, length, subst, sym}
+use Rattle.std.proofs.Common.{◌∙◌, ap, length, sym}
 use Rattle.report_steps.specs.EachLaws.{each-length}
 use Rattle.mode_report.specs.DirectionHeld.{AreFit, along_in}
 use Rattle.mode_report.specs.ReportPieces.{along_told}

@@ -1,4 +1,4 @@
-use Rattle.std.proofs.Common.{◌≡◌, ℕ, ◌<◌, List, [], length, get_or, subst, sym, arith}
+use Rattle.std.proofs.Common.{ℕ, ◌<◌, List, [], length, get_or, subst, sym, arith}
 use Rattle.std.proofs.lemmas.Option.{get_or_from_slice_get, slice_get-get_or}
 use Rattle.std.proofs.lemmas.Result.{IfOk-weaker}
 use Rattle.cyclo24.specs.ExactK24.{Exact24, k24_laws}
