@@ -1,8 +1,7 @@
 -- What is told of the orbits and their modes along a direction, one by one.
-use Rattle.std.proofs.Common.{◌≡◌, refl, sym, ap, ◌∙◌, subst, ℕ, ◌+◌, ◌<◌, List, [], ◌∷◌, ◌++◌, length, take, get_or, map, arith, Some, slice_get}
+use Rattle.std.proofs.Common.{◌≡◌, refl, sym, ap, ◌∙◌, subst, ℕ, ◌<◌, List, [], ◌∷◌, length, get_or, map, arith, Some, slice_get}
 use Rattle.std.specs.List.{All}
 use Rattle.std.specs.declared.vec.Vec.{Vec}
-use Rattle.std.proofs.lemmas.List.{map-append, take_more}
 use Rattle.std.proofs.lemmas.Option.{slice_get-get_or, slice_get_within}
 use Rattle.cyclo24.specs.declared.k24.K24.{K24}
 use Rattle.iso_text.specs.declared.sections.IrrepText.{IrrepText}
@@ -18,12 +17,6 @@ use Rattle.mode_report.proofs.EachLemmas.{each-second}
 module _ {Z : Type 0} (irreps : List IrrepText) where
   abbrev pub rows_in : Vec (MatrixView K24) Z → ℕ
   rows_in ms = length (named_matrices irreps ms.items)
-
-  -- the count of one orbit more
-  pub counts-more : (all : List (Vec (MatrixView K24) Z)) (now new : List ℕ) (i count : ℕ) (ms : Vec (MatrixView K24) Z) → i < length all → ms ≡ get_or all i ms → now ≡ map rows_in (take i all) → new ≡ now ++ count ∷ [] → count ≡ rows_in ms
-      → new ≡ map rows_in (take (i + 1) all)
-  counts-more all now new i count ms l s a b e =
-      b ∙ (λ j. a j ++ (e ∙ ap rows_in s) j ∷ []) ∙ sym (map-append rows_in (take i all) (get_or all i ms ∷ [])) ∙ ap (map rows_in) (sym (take_more all i ms l))
 
   -- a matrix for each irrep
   pub fit-counts : (orbits : List OrbitView) (all : List (Vec (MatrixView K24) Z)) → Each (AreFit irreps) orbits all → All (λ (ms : Vec (MatrixView K24) Z). length irreps ≡ length ms.items) all
