@@ -6,6 +6,8 @@ pub mod ExtraReport
 pub mod ExtraFound
 -- what is found for them, by the program's answer
 pub mod FoundExtra
+-- the pieces of the report of `occ` and `axial`
+pub mod ExtraPieces
 -- what `occ-amps` and `axial-amps` find in a file
 pub mod ExtraAmpsFound
 -- what is found for them, by the program's answer

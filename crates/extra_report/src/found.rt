@@ -1,16 +1,15 @@
 // What `occ` and `axial` find in a file.
-ghost use Rattle.std.specs.Prelude.{◌≡◌, IfOk};
+ghost use Rattle.std.specs.Prelude.{IfOk};
 ghost use Rattle.iso_text.specs.Ranges.{IsInRange};
 ghost use Rattle.report_steps.specs.HeldFiles.{AreInducedHeld};
 ghost use Rattle.mode_report.specs.Held.{AreOrbitsHeld};
 ghost use Rattle.extra_report.specs.ExtraFound.{AreExtraFound};
-ghost use Rattle.extra_report.specs.FoundExtra.{FindsExtra, IsExtraHeld, extra_of};
+ghost use Rattle.extra_report.specs.FoundExtra.{FindsExtra};
 
-use crate::head::{entries_of, head, word_of};
 use crate::orbit_modes::all_modes;
 use extra_modes::{ExtraModes, Nature};
-use iso_text::{NoMemory, Text};
-use mode_report::{orbits_of, push_orbits};
+use iso_text::NoMemory;
+use mode_report::orbits_of;
 use report_steps::{InducedFile, Step};
 use std::alloc::Global;
 use wyckoff::Orbits;
@@ -68,24 +67,4 @@ pub fn extra_found(
         Step::Passed(orbits) => after_orbits(alloc, file, nature, orbits),
         Step::Refused(refusal) => Ok(Step::Refused(refusal)),
     }
-}
-
-/// The report of the modes. Condition: there are modes for each orbit, with so many numbers for each
-/// atom. Errors: want of memory.
-pub fn extra_report(alloc: Global, found: &FoundExtra) -> Result<Text, NoMemory>
-    requires { IsExtraHeld found.now }
-    ensures { IfOk result (λ text. text ≡ extra_of found.now) }
-{
-    let document = found.file.divided.document();
-    let entries = entries_of(found.nature);
-    let mut text = head(alloc, document.format(), word_of(found.nature))?;
-    push_orbits(
-        alloc,
-        &mut text,
-        entries,
-        document.irreps(),
-        &found.orbits,
-        &found.modes,
-    )?;
-    Ok(text)
 }

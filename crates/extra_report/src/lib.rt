@@ -12,8 +12,12 @@ mod gathered;
 mod head;
 mod laws;
 mod orbit_modes;
+mod report;
 mod rows;
 
 pub use amps_found::{FoundExtraAmps, extra_amps_found};
-pub use found::{FoundExtra, extra_found, extra_report};
-pub use laws::{law_of_extra_amps_found, law_of_extra_amps_pieces, law_of_extra_found};
+pub use found::{FoundExtra, extra_found};
+pub use laws::{
+    law_of_extra_amps_found, law_of_extra_amps_pieces, law_of_extra_found, law_of_extra_pieces,
+};
+pub use report::ExtraReport;

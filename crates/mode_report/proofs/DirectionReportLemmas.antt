@@ -1,5 +1,5 @@
--- The lines of orbits with the modes that a direction allows.
-use Rattle.std.proofs.Common.{◌≡◌, sym, ap, ◌∙◌, subst, ℕ, zero, suc, ◌<◌, List, [], ◌∷◌, ◌++◌, length, get_or, arith, append_assoc, refl, Some, slice_get}
+-- What is told of the orbits along a direction, orbit by orbit.
+use Rattle.std.proofs.Common.{◌≡◌, sym, ap, subst, ℕ, zero, suc, ◌<◌, List, [], ◌∷◌, length, get_or, arith, refl, Some, slice_get}
 use Rattle.std.proofs.lemmas.Option.{get_or_from_slice_get}
 use Rattle.std.specs.declared.vec.Vec.{Vec}
 use Rattle.cyclo24.specs.declared.k24.K24.{K24}
@@ -10,10 +10,6 @@ use Rattle.report_steps.specs.EachLaws.{each-at}
 use Rattle.report_steps.specs.IrrepSteps.{Each}
 use Rattle.mode_report.specs.DirectionHeld.{AreFit, along_of, along_in}
 use Rattle.mode_report.specs.Told.{OrbitModes}
-
--- the parts of an orbit's lines
-pub along-joined : (old front lines one two : List ℕ) → one ≡ old ++ front → two ≡ one ++ lines → two ≡ old ++ (front ++ lines)
-along-joined old front lines one two a b = b ∙ ap (λ t. t ++ lines) a ∙ append_assoc old front lines
 
 -- what is told of orbit i
 pub along-at : {Z : Type 0} (irreps : List IrrepText) (orbits : List OrbitView) (all : List (Vec (MatrixView K24) Z)) (i : ℕ) (o : OrbitView) (ms : Vec (MatrixView K24) Z) (d : OrbitModes)

@@ -1,36 +1,16 @@
 -- What the steps of the program find of a file.
-use Rattle.std.proofs.Common.{◌≡◌, refl, sym, ap, ◌∙◌, subst, inl, inr, ℕ, zero, suc, ◌<◌, ◌≤◌, List, [], ◌∷◌, length, map, arith, Some, slice_get}
+use Rattle.std.proofs.Common.{◌≡◌, refl, sym, subst, inl, inr, ℕ, zero, suc, ◌<◌, List, [], ◌∷◌, length, arith, Some, slice_get}
 use Rattle.std.specs.List.{All}
-use Rattle.std.proofs.lemmas.Option.{get_or_from_slice_get, slice_get_within}
-use Rattle.cyclo24.specs.declared.k24.K24.{K24}
-use Rattle.cyclo24.specs.ExactK24.{Exact24, k24_laws}
-use Rattle.cyclo24.specs.K24.{exact24}
+use Rattle.std.proofs.lemmas.Option.{get_or_from_slice_get}
 use Rattle.iso_text.specs.declared.sections.AtomText.{AtomText}
-use Rattle.iso_text.specs.declared.sections.IrrepText.{IrrepText}
-use Rattle.lin_alg.specs.Rows.{vector}
 use Rattle.super_group.specs.Quotient.{SupercellGroup}
 use Rattle.wyckoff.specs.AtomLines.{AreAccepted, AreOrbitsOf, IsSameSite, IsTooLarge}
 use Rattle.wyckoff.specs.Orbit.{OrbitView}
-use Rattle.induce.specs.InducedView.{InducedView, star_in}
-use Rattle.induce.specs.Induced.{weight_at}
-use Rattle.induce.specs.Tables.{matrices_in}
 use Rattle.mode_project.specs.AtomSpace.{IsOrbit}
-use Rattle.mode_project.specs.ModesView.{ModesView, irrep_modes_in}
-use Rattle.mode_project.specs.Weights.{exact_weights, weights_in}
 use Rattle.report_steps.specs.Contexts.{Divided}
-use Rattle.report_steps.specs.EachLaws.{each-map}
-use Rattle.report_steps.specs.Held.{IsInducedHeld}
-use Rattle.report_steps.specs.IrrepSteps.{Each}
-use Rattle.report_steps.specs.Steps.{OrWide}
-use Rattle.report_steps.specs.declared.refusal.Refusal.{Refusal}
 use Rattle.report_steps.specs.declared.refusal.Refusal.TheVariants as refusal
-use Rattle.mode_report.specs.AllModes.{IsToldOf}
 use Rattle.mode_report.specs.Atoms.{RefusesAtoms}
-use Rattle.mode_report.specs.Held.{placed_in, AreOrbitsHeld, AreModesOfOrbit, HasSizeOf, IsWideOrbit, IsWideSomeOrbit, RefusesNothing, told_in}
-use Rattle.mode_report.specs.IrrepWeights.{IsWeightOf, AreWeightsOf}
-use Rattle.mode_report.specs.ModesFound.{AreWideAll, AreToldOf}
-use Rattle.mode_report.specs.Told.{counts_text}
-use Rattle.mode_report.specs.ModesHeldLaws.{exact-length}
+use Rattle.mode_report.specs.Held.{AreOrbitsHeld}
 
 -- ---- orbits
 

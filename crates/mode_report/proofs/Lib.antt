@@ -1,4 +1,5 @@
 pub mod AlongLemmas
+pub mod AlongReportLemmas
 pub mod AlongUniqueLemmas
 pub mod CauseLemmas
 pub mod DirectionFormLemmas
@@ -10,6 +11,9 @@ pub mod EntryLemmas
 pub mod FoundLemmas
 pub mod MoveLemmas
 pub mod NamedRowLemmas
+pub mod ListLemmas
+pub mod ModeLemmas
+pub mod PartLemmas
 pub mod ReportLemmas
 pub mod SubgroupLemmas
 pub mod TextLemmas

@@ -1,8 +1,10 @@
 -- Rows of matrices with names, as the program holds them.
-use Rattle.std.proofs.Common.{◌≡◌, refl, sym, ap, ◌∙◌, subst, ◌⊎◌, inl, inr, ℕ, zero, suc, ◌+◌, ◌*◌, ◌<◌, ◌≤◌, List, [], ◌∷◌, ◌++◌, length, take, get_or, map, arith, append_assoc}
+use Rattle.std.proofs.Common.{◌≡◌, refl, sym, ap, ◌∙◌, ◌⊎◌, inl, inr, ℕ, zero, suc, ◌+◌, ◌-◌, ◌*◌, ◌<◌, ◌≤◌, List, [], ◌∷◌, ◌++◌, length, take, drop, get_or, map, arith, append_assoc, Some, slice_get}
 use Rattle.std.specs.List.{range_with_len}
 use Rattle.std.proofs.lemmas.Bool.{le-ltb}
-use Rattle.std.proofs.lemmas.List.{map-append, length-map, append-nil}
+use Rattle.std.proofs.lemmas.List.{map-append, length-append, length-map, append-nil, take_all, drop_all}
+use Rattle.std.proofs.lemmas.Option.{same_Some, none-some}
+use Rattle.report_buffer.specs.PieceLaws.{made-piece}
 use Rattle.std.proofs.lemmas.List.FromFn.{length-map-range_with_len, get_or-map-range_with_len, map-range_with_len_more}
 use Rattle.std.specs.Prelude.{cond}
 use Rattle.cyclo24.specs.FieldOn.{FieldOn}
@@ -12,12 +14,8 @@ use Rattle.cyclo24.specs.K24.{exact24}
 use Rattle.iso_text.specs.declared.sections.IrrepText.{IrrepText}
 use Rattle.lin_alg.specs.Matrix.{MatrixView, entry}
 use Rattle.lin_alg.specs.Rows.{vector}
-use Rattle.report_steps.specs.EachLaws.{each-at}
-use Rattle.report_steps.specs.IrrepSteps.{Each}
-use Rattle.mode_report.specs.DirectionHeld.{named_by, named_matrices}
-use Rattle.mode_report.specs.NamedRows.{IsNamedRow}
-use Rattle.mode_report.specs.declared.named_rows.NamedRow.{NamedRow}
-use Rattle.mode_report.proofs.EachLemmas.{each-push}
+use Rattle.mode_report.specs.DirectionHeld.{matrix_rows, named_by, named_matrices}
+use Rattle.mode_report.proofs.ListLemmas.{back-at, front-at}
 
 -- past what is made of the numbers from a on
 made-past : {K : Type 0} (e : ℕ → K) (a n j : ℕ) (d : K) → n ≤ j → get_or (map e (range_with_len a n)) j d ≡ d
@@ -62,18 +60,6 @@ copied-more m i j xs ys x h a v = entry-more k24_laws exact24 (entry k24_laws ex
 
 -- ---- rows with a name
 
--- one row of a matrix more
-pub rows-more : (w : ℕ) (name : List ℕ) (e : ℕ → ℕ → Exact24) (i : ℕ) (told : List (List ℕ × (ℕ → Exact24))) (xs ys : List NamedRow) (x : NamedRow)
-    → Each (IsNamedRow w) (told ++ map (λ v. (name, v)) (map e (range_with_len 0 i))) xs → ys ≡ xs ++ x ∷ [] → IsNamedRow w (name, e i) x
-    → Each (IsNamedRow w) (told ++ map (λ v. (name, v)) (map e (range_with_len 0 (i + 1)))) ys
-rows-more w name e i told xs ys x h a r =
-    let g : (ℕ → Exact24) → List ℕ × (ℕ → Exact24) = λ v. (name, v) in
-    let front = map g (map e (range_with_len 0 i)) in
-    let P : List NamedRow → Type 0 = λ zs. Each (IsNamedRow w) ((told ++ front) ++ g (e i) ∷ []) zs in
-    let Q : List (List ℕ × (ℕ → Exact24)) → Type 0 = λ ts. Each (IsNamedRow w) ts ys in
-    let more : map g (map e (range_with_len 0 (i + 1))) ≡ front ++ g (e i) ∷ [] = ap (map g) (map-range_with_len_more e 0 i i (omega arith)) ∙ map-append g (map e (range_with_len 0 i)) (e i ∷ []) in
-    subst Q (append_assoc told front (g (e i) ∷ []) ∙ ap (λ t. told ++ t) (sym more)) (subst P (sym a) (each-push (IsNamedRow w) (told ++ front) xs (g (e i)) x h r))
-
 -- the rows of one matrix more
 pub matrices-more : (irreps : List IrrepText) (ms : List (MatrixView K24)) (j : ℕ) (i : IrrepText) (m : MatrixView K24) → j < length irreps → j < length ms
     → named_matrices (take (j + 1) irreps) (take (j + 1) ms) ≡ named_matrices (take j irreps) (take j ms) ++ named_by (get_or irreps j i).name (get_or ms j m)
@@ -86,22 +72,84 @@ matrices-more (x ∷ irreps) (y ∷ ms) (suc j) i m k l =
     ∙ ap (λ t. named_by x.name y ++ t) (matrices-more irreps ms j i m (omega arith) (omega arith))
     ∙ sym (append_assoc (named_by x.name y) (named_matrices (take j irreps) (take j ms)) (named_by (get_or irreps j i).name (get_or ms j m)))
 
-pub matrices-next : (irreps : List IrrepText) (ms : List (MatrixView K24)) (w j : ℕ) (i : IrrepText) (m : MatrixView K24) (name : List ℕ) (xs ys : List NamedRow) → j < length irreps → j < length ms
-    → name ≡ (get_or irreps j i).name → m ≡ get_or ms j m → m.cols ≡ w → Each (IsNamedRow w) (named_matrices (take j irreps) (take j ms)) xs
-    → ((told : List (List ℕ × (ℕ → Exact24))) → Each (IsNamedRow m.cols) told xs → Each (IsNamedRow m.cols) (told ++ named_by name m) ys)
-    → Each (IsNamedRow w) (named_matrices (take (j + 1) irreps) (take (j + 1) ms)) ys
-matrices-next irreps ms w j i m name xs ys k l a b c h more =
-    let front = named_matrices (take j irreps) (take j ms) in
-    let P : ℕ → Type 0 = λ n. Each (IsNamedRow n) front xs in
-    let Q : ℕ → Type 0 = λ n. Each (IsNamedRow n) (front ++ named_by name m) ys in
-    let R : List (List ℕ × (ℕ → Exact24)) → Type 0 = λ ts. Each (IsNamedRow w) ts ys in
-    let e : front ++ named_by name m ≡ named_matrices (take (j + 1) irreps) (take (j + 1) ms) =
-    (λ t. front ++ named_by (a t) (b t)) ∙ sym (matrices-more irreps ms j i m k l) in
-    subst R e (subst Q c (more front (subst P (sym c) h)))
+-- how many rows a matrix has
+pub named-count : (name : List ℕ) (m : MatrixView K24) → length (named_by name m) ≡ m.rows
+named-count name m =
+    let g : (ℕ → Exact24) → List ℕ × (ℕ → Exact24) = λ v. (name, v) in
+    length-map (matrix_rows m) g ∙ length-map-range_with_len (entry k24_laws exact24 m) 0 m.rows
 
--- the mode that a row stands for
-pub named-row : (w : ℕ) (told : List (List ℕ × (ℕ → Exact24))) (modes : List NamedRow) (m : ℕ) (x : NamedRow) (d : List ℕ × (ℕ → Exact24)) → m < length told → x ≡ get_or modes m x
-    → Each (IsNamedRow w) told modes → (x.name, vector k24_laws exact24 x.row.items) ≡ get_or told m d
-named-row w told modes m x d l e h =
-    let r = each-at (IsNamedRow w) told modes m d x l h in
-    (λ t. ((e t).name, vector k24_laws exact24 (e t).row.items)) ∙ (λ t. (sym r.name t, sym r.entries t))
+-- the rows of one matrix more, counted
+pub count-more : (irreps : List IrrepText) (ms : List (MatrixView K24)) (j : ℕ) (m : MatrixView K24) → length irreps ≡ length ms → j < length ms
+    → length (named_matrices (take (j + 1) irreps) (take (j + 1) ms)) ≡ length (named_matrices (take j irreps) (take j ms)) + (get_or ms j m).rows
+count-more [] [] j m e l = absurd (omega arith)
+count-more [] (y ∷ ms) j m e l = absurd (omega arith)
+count-more (x ∷ irreps) [] j m e l = absurd (omega arith)
+count-more (x ∷ irreps) (y ∷ ms) j m e l =
+    ap (λ xs. length xs) (matrices-more (x ∷ irreps) (y ∷ ms) j x m (omega (arith, e, l)) l)
+    ∙ length-append (named_matrices (take j (x ∷ irreps)) (take j (y ∷ ms))) (named_by (get_or (x ∷ irreps) j x).name (get_or (y ∷ ms) j m))
+    ∙ ap (λ n. length (named_matrices (take j (x ∷ irreps)) (take j (y ∷ ms))) + n) (named-count (get_or (x ∷ irreps) j x).name (get_or (y ∷ ms) j m))
+
+pub count-next : (irreps : List IrrepText) (ms : List (MatrixView K24)) (j now rows new : ℕ) (m : MatrixView K24) → length irreps ≡ length ms → j < length ms → m ≡ get_or ms j m → rows ≡ m.rows
+    → now ≡ length (named_matrices (take j irreps) (take j ms)) → new ≡ now + rows → new ≡ length (named_matrices (take (j + 1) irreps) (take (j + 1) ms))
+count-next irreps ms j now rows new m e l s r a b =
+    let h = count-more irreps ms j m e l in
+    b ∙ (λ t. a t + (r ∙ ap (λ (x : MatrixView K24). x.rows) s) t) ∙ sym h
+
+pub count-whole : (irreps : List IrrepText) (ms : List (MatrixView K24)) (j now : ℕ) → length irreps ≡ length ms → length ms ≤ j → now ≡ length (named_matrices (take j irreps) (take j ms)) → now ≡ length (named_matrices irreps ms)
+count-whole irreps ms j now e l a = a ∙ (λ t. length (named_matrices (take_all j irreps (omega (arith, e, l)) t) (take_all j ms l t)))
+
+-- ---- a row by its number among all
+
+-- there is an element
+pub some-of : {X : Type 0} (xs : List X) (j : ℕ) → j < length xs → X
+some-of [] j l = absurd (omega arith)
+some-of (x ∷ xs) j l = x
+
+-- the rows from matrix j on
+rows-from : (irreps : List IrrepText) (ms : List (MatrixView K24)) (j : ℕ) (i : IrrepText) (m : MatrixView K24) → j < length irreps → j < length ms
+    → named_matrices (drop j irreps) (drop j ms) ≡ named_by (get_or irreps j i).name (get_or ms j m) ++ named_matrices (drop (j + 1) irreps) (drop (j + 1) ms)
+rows-from [] ms j i m k l = absurd (omega arith)
+rows-from (x ∷ irreps) [] j i m k l = absurd (omega arith)
+rows-from (x ∷ irreps) (y ∷ ms) zero i m k l = refl
+rows-from (x ∷ irreps) (y ∷ ms) (suc j) i m k l =
+    let s : suc j + 1 ≡ suc (j + 1) = omega arith in
+    rows-from irreps ms j i m (omega arith) (omega arith)
+    ∙ ap (λ n. named_by (get_or irreps j i).name (get_or ms j m) ++ named_matrices (drop n (x ∷ irreps)) (drop n (y ∷ ms))) (sym s)
+
+-- row k of a matrix under a name
+named-at : (name : List ℕ) (m : MatrixView K24) (k : ℕ) → k < m.rows → slice_get (named_by name m) k ≡ Some (name, entry k24_laws exact24 m k)
+named-at name m k l =
+    let e = entry k24_laws exact24 m in
+    let g : (ℕ → Exact24) → List ℕ × (ℕ → Exact24) = λ v. (name, v) in
+    made-piece g (matrix_rows m) k (e k) (made-piece e (range_with_len 0 m.rows) k k (range-at 0 m.rows k l ∙ (let z : 0 + k ≡ k = omega arith in ap (λ n. Some n) z)))
+  where
+    range-at : (a n i : ℕ) → i < n → slice_get (range_with_len a n) i ≡ Some (a + i)
+    range-at a zero i h = absurd (omega arith)
+    range-at a (suc n) zero h = let z : a ≡ a + 0 = omega arith in ap (λ t. Some t) z
+    range-at a (suc n) (suc i) h = let s : a + 1 + i ≡ a + suc i = omega arith in range-at (a + 1) n i (omega arith) ∙ ap (λ t. Some t) s
+
+module _ (irreps : List IrrepText) (ms : List (MatrixView K24)) (j left : ℕ) (i : IrrepText) (m : MatrixView K24) (x : List ℕ × (ℕ → Exact24)) (k : j < length irreps) (l : j < length ms) where
+  -- it is one of this matrix
+  pub row-here : i ≡ get_or irreps j i → m ≡ get_or ms j m → left < m.rows → slice_get (named_matrices (drop j irreps) (drop j ms)) left ≡ Some x → (i.name, entry k24_laws exact24 m left) ≡ x
+  row-here a b n s =
+      let rest = named_matrices (drop (j + 1) irreps) (drop (j + 1) ms) in
+      let here = front-at (named_by i.name m) rest left (i.name, entry k24_laws exact24 m left) (named-at i.name m left n) in
+      let from = rows-from irreps ms j i m k l ∙ (λ t. named_by (sym a t).name (sym b t) ++ rest) in
+      same_Some (i.name, entry k24_laws exact24 m left) x (sym here ∙ sym (ap (λ ys. slice_get ys left) from) ∙ s)
+
+  -- it is behind them
+  pub row-behind : (rows : ℕ) → m ≡ get_or ms j m → rows ≡ m.rows → rows ≤ left → slice_get (named_matrices (drop j irreps) (drop j ms)) left ≡ Some x
+      → slice_get (named_matrices (drop (j + 1) irreps) (drop (j + 1) ms)) (left - rows) ≡ Some x
+  row-behind rows b r n s =
+      let name = (get_or irreps j i).name in
+      let rest = named_matrices (drop (j + 1) irreps) (drop (j + 1) ms) in
+      let from = rows-from irreps ms j i m k l ∙ (λ t. named_by name (sym b t) ++ rest) in
+      let count = named-count name m in
+      let past : length (named_by name m) ≤ left = omega (arith, n, r, count) in
+      let q : left - rows ≡ left - length (named_by name m) = omega (arith, r, count) in
+      ap (slice_get rest) q ∙ sym (back-at (named_by name m) rest left past) ∙ sym (ap (λ ys. slice_get ys left) from) ∙ s
+
+-- none is behind all
+pub row-past : (irreps : List IrrepText) (ms : List (MatrixView K24)) (j left : ℕ) (x : List ℕ × (ℕ → Exact24)) → length irreps ≡ length ms → length ms ≤ j → slice_get (named_matrices (drop j irreps) (drop j ms)) left ≡ Some x → ⊥
+row-past irreps ms j left x e l s =
+    none-some x (sym (λ t. slice_get (named_matrices (drop_all j irreps (omega (arith, e, l)) t) (drop_all j ms l t)) left) ∙ s)

@@ -1,7 +1,5 @@
 -- The lines of the modes that the program holds, and of the orbits.
-use Rattle.std.proofs.Common.{◌≡◌, refl, sym, ap, ◌∙◌, ℕ, zero, suc, ◌+◌, ◌<◌, ◌≤◌, List, [], ◌∷◌, ◌++◌, length, take, get_or, map, flat_map, arith, append_assoc, Some, slice_get}
-use Rattle.std.specs.List.{enumerate_from}
-use Rattle.std.proofs.lemmas.List.{get_or-map}
+use Rattle.std.proofs.Common.{◌≡◌, refl, sym, ap, ◌∙◌, ℕ, zero, suc, ◌<◌, ◌≤◌, List, [], ◌∷◌, length, get_or, arith, Some, slice_get}
 use Rattle.std.proofs.lemmas.Option.{get_or_from_slice_get, same_Some}
 use Rattle.cyclo24.specs.declared.k24.K24.{K24}
 use Rattle.cyclo24.specs.ExactK24.{Exact24, k24_laws}
@@ -12,7 +10,6 @@ use Rattle.wyckoff.specs.Orbit.{OrbitView}
 use Rattle.mode_project.specs.ModesView.{ModesView}
 use Rattle.mode_report.specs.AllModes.{name_at, named}
 use Rattle.mode_report.specs.Held.{told_of, told_in}
-use Rattle.mode_report.specs.ReportLaws.{numbered-append, numbered-take}
 use Rattle.mode_report.specs.Told.{OrbitModes}
 
 pub name-inside : (irreps : List IrrepText) (j : ℕ) (d : IrrepText) → j < length irreps → (get_or irreps j d).name ≡ name_at irreps j
@@ -36,28 +33,6 @@ pub irrep-mode : (irreps : List IrrepText) (rows : List (ℕ × List K24)) (m : 
     → row ≡ (get_or rows m (0, [])).1 → slice_get (exact_rows k24_laws exact24 rows) m ≡ Some r → (name, vector k24_laws exact24 row) ≡ named irreps r
 irrep-mode irreps rows m name row r l e h s = (λ j. (e j, vector k24_laws exact24 (h j))) ∙ ap (named irreps) (same_Some _ _ (sym (exact-row rows m l) ∙ s))
 
--- the next of a list of numbered texts
-pub lines-on : {X : Type 0} (f : ℕ × X → List ℕ) (n : ℕ) (xs : List X) (old now new line : List ℕ) (i k : ℕ) (d : X) → i < length xs → now ≡ old ++ flat_map f (enumerate_from n (take i xs))
-    → new ≡ now ++ line → k ≡ n + i → line ≡ f (k, get_or xs i d) → new ≡ old ++ flat_map f (enumerate_from n (take (i + 1) xs))
-lines-on f n xs old now new line i k d l a b s e =
-    let part = flat_map f (enumerate_from n (take i xs)) in
-    b ∙ (λ j. a j ++ e j) ∙ ap (λ k. (old ++ part) ++ f (k, get_or xs i d)) s ∙ append_assoc old part (f (n + i, get_or xs i d))
-    ∙ ap (λ t. old ++ t) (sym (numbered-take f n xs i d l))
-
--- one element of what is made of a list
-pub mapped-at : {A B : Type 0} (g : A → B) (xs : List A) (i : ℕ) (x : A) (d : B) → i < length xs → slice_get xs i ≡ Some x → g x ≡ get_or (map g xs) i d
-mapped-at g xs i x d l e = ap g (sym (get_or_from_slice_get xs i x x e)) ∙ sym (get_or-map g xs i x d l)
-
--- the parts of an orbit's lines
-pub orbit-joined : {X : Type 0} (f : ℕ × X → List ℕ) (n : ℕ) (xs ys : List X) (old front one two three : List ℕ) → one ≡ old ++ front
-    → two ≡ one ++ flat_map f (enumerate_from 1 xs) → n ≡ 1 + length xs → three ≡ two ++ flat_map f (enumerate_from n ys)
-    → three ≡ old ++ (front ++ flat_map f (enumerate_from 1 (xs ++ ys)))
-orbit-joined f n xs ys old front one two three a b e c =
-    let u = flat_map f (enumerate_from 1 xs) in
-    let v = flat_map f (enumerate_from n ys) in
-    let w : u ++ v ≡ flat_map f (enumerate_from 1 (xs ++ ys)) = ap (λ k. u ++ flat_map f (enumerate_from k ys)) e ∙ sym (numbered-append f 1 xs ys) in
-    c ∙ ap (λ t. t ++ v) (b ∙ ap (λ t. t ++ u) a) ∙ append_assoc (old ++ front) u v ∙ append_assoc old front (u ++ v) ∙ ap (λ t. old ++ (front ++ t)) w
-
 -- what is told of orbit i
 pub told-at : (irreps : List IrrepText) (orbits : List OrbitView) (all : List ModesView) (i : ℕ) (o : OrbitView) (m : ModesView) (d : OrbitModes) → slice_get orbits i ≡ Some o → i < length all
     → m ≡ get_or all i m → i < length orbits → told_of irreps o m ≡ get_or (told_in irreps orbits all) i d
@@ -65,9 +40,3 @@ told-at irreps [] all i o m d s l e k = absurd (omega arith)
 told-at irreps (x ∷ orbits) [] i o m d s l e k = absurd (omega arith)
 told-at irreps (x ∷ orbits) (y ∷ all) zero o m d s l e k = (λ j. told_of irreps (sym (get_or_from_slice_get (x ∷ orbits) 0 o o s) j) (e j))
 told-at irreps (x ∷ orbits) (y ∷ all) (suc i) o m d s l e k = told-at irreps orbits all i o m d s (omega arith) e (omega arith)
-
-pub told-length : (irreps : List IrrepText) (orbits : List OrbitView) (all : List ModesView) → length orbits ≡ length all → length (told_in irreps orbits all) ≡ length all
-told-length irreps [] [] e = refl
-told-length irreps [] (y ∷ all) e = absurd (omega arith)
-told-length irreps (x ∷ orbits) [] e = refl
-told-length irreps (x ∷ orbits) (y ∷ all) e = ap suc (told-length irreps orbits all (omega arith))

@@ -3,7 +3,7 @@ use Rattle.std.proofs.Common.{◌≡◌, refl, ◌⊎◌, inl, inr, ap, ◌∙�
 use Rattle.std.specs.List.{range_with_len, enumerate_from}
 use Rattle.std.proofs.lemmas.List.{append-nil}
 use Rattle.std.proofs.lemmas.Grind.{flat_map-append}
-use Rattle.mode_report.specs.ReportLaws.{numbered-more, numbered-take}
+use Rattle.mode_report.specs.ReportLaws.{numbered-take}
 
 -- the numbers from a on, one more at the end
 range-more : (a n : ℕ) → range_with_len a (suc n) ≡ range_with_len a n ++ (a + n) ∷ []
@@ -43,11 +43,3 @@ lines-more f xs old now new line i d l a b e =
     let part = flat_map f (enumerate_from 1 (take i xs)) in
     b ∙ (λ j. a j ++ e j) ∙ ap (λ k. (old ++ part) ++ f (k, get_or xs i d)) n ∙ append_assoc old part (f (1 + i, get_or xs i d))
     ∙ ap (λ t. old ++ t) (sym (numbered-take f 1 xs i d l))
-
--- the line of one more element at the end
-pub lines-pushed : {X : Type 0} (f : ℕ × X → List ℕ) (xs : List X) (x : X) (old now new line : List ℕ) → now ≡ old ++ flat_map f (enumerate_from 1 xs) → new ≡ now ++ line
-    → line ≡ f (length xs + 1, x) → new ≡ old ++ flat_map f (enumerate_from 1 (xs ++ x ∷ []))
-lines-pushed f xs x old now new line a b e =
-    let n : length xs + 1 ≡ 1 + length xs = omega arith in
-    let part = flat_map f (enumerate_from 1 xs) in
-    b ∙ (λ j. a j ++ e j) ∙ ap (λ k. (old ++ part) ++ f (k, x)) n ∙ append_assoc old part (f (1 + length xs, x)) ∙ ap (λ t. old ++ t) (sym (numbered-more f 1 xs x))

@@ -26,9 +26,17 @@ pub mod DirectionModes
 pub mod DirectionFound
 -- what the program holds of the modes that a stabiliser leaves
 pub mod DirectionHeld
--- modes with the names of their irreps
-pub mod NamedRows
 -- what is found for a direction, by the program's answer
 pub mod FoundAlong
+-- the pieces of the reports of `modes`
+pub mod ModesPieces
+-- which piece is which
+pub mod Parts
+-- piece number n is the text of part number n; the pieces are the whole report
+pub mod PartLaws
+-- how many orbits and modes are told of
+pub mod ToldLaws
+-- the pieces, by the program's values
+pub mod ReportPieces
 -- the weights of the irreps of a file are one, and what is known of orbits and modes
 pub mod OneWeightLaws

@@ -5,7 +5,7 @@
 -- wide-some: a number is wide at some orbit
 -- told-each, sizes-are: what is told of the modes of orbits, and how many numbers they have
 -- found-modes, found-wide: what is found behind the orbits
-use Rattle.std.proofs.Common.{◌≡◌, refl, sym, ap, ◌∙◌, subst, inl, inr, ℕ, zero, suc, ◌<◌, ◌≤◌, ◌*◌, List, [], ◌∷◌, length, map, arith, Some, slice_get}
+use Rattle.std.proofs.Common.{◌≡◌, refl, sym, ap, ◌∙◌, subst, inl, inr, ℕ, zero, suc, ◌≤◌, ◌*◌, List, [], ◌∷◌, length, map, arith, Some, slice_get}
 use Rattle.std.proofs.lemmas.Option.{get_or_from_slice_get, slice_get_within}
 use Rattle.cyclo24.specs.declared.k24.K24.{K24}
 use Rattle.cyclo24.specs.ExactK24.{Exact24, k24_laws}

@@ -8,13 +8,11 @@
 -- mode_text, orbit_text, orbits_text: the same with three numbers an atom
 -- head_text format, direction_text name number: the first line, and that of a direction
 -- modes_text format told, direction_modes_text format name number told: the whole report
-use Rattle.std.specs.Prelude.{ℕ, ◌+◌, ◌*◌, Bool, ◌&&◌, if◌then◌else◌, ℤ, pos, List, [], ◌++◌, length, flat_map, codes, decimal}
+use Rattle.std.specs.Prelude.{ℕ, ◌+◌, ◌*◌, Bool, ◌&&◌, if◌then◌else◌, ℤ, List, [], ◌++◌, length, flat_map, codes, decimal}
 use Rattle.std.specs.List.{enumerate_from, range_with_len}
 use Rattle.cyclo24.specs.ExactK24.{Exact24, k24_laws}
-use Rattle.cyclo24.specs.Numerals.{of_whole}
 use Rattle.cyclo24.specs.TextK24.{text24}
 use Rattle.iso_text.specs.Lines.{line}
-use Rattle.space_ops.specs.Op.{number_at}
 use Rattle.report_steps.specs.Places.{place_text}
 use Rattle.mode_report.specs.declared.moves.AtomEntries.{AtomEntries}
 use Rattle.mode_report.specs.declared.moves.AtomEntries.TheVariants.{One, Three}

@@ -9,15 +9,14 @@ ghost use Rattle.report_steps.specs.Steps.{Answers, OrWide};
 ghost use Rattle.mode_report.specs.Atoms.{RefusesAtoms};
 ghost use Rattle.mode_report.specs.DirectionFound.{AreWideAllAlong, AreToldAlong, AfterDirection};
 ghost use Rattle.mode_report.specs.DirectionHeld.{AreFit, along_in};
-ghost use Rattle.mode_report.specs.FoundAlong.{FindsAlong, IsAlongHeld, along_text};
+ghost use Rattle.mode_report.specs.FoundAlong.{FindsAlong};
 ghost use Rattle.mode_report.specs.Held.{AreOrbitsHeld};
 
 use crate::atoms::orbits_of;
-use crate::direction_report::report_along;
 use crate::direction_rows::all_rows;
 use crate::weights::weights_of;
 use cyclo24::K24;
-use iso_text::{Name, NoMemory, Text};
+use iso_text::{Name, NoMemory};
 use lin_alg::Matrix;
 use report_steps::{InducedFile, Step};
 use std::alloc::Global;
@@ -108,22 +107,4 @@ pub(crate) fn after_direction(
         Step::Passed(orbits) => after_orbits(alloc, file, name, number, orbits, stab),
         Step::Refused(refusal) => Ok(Step::Refused(refusal)),
     }
-}
-
-/// The report of modes along a direction. Condition: there is a matrix for each irrep on each orbit,
-/// with three columns for each atom. Errors: want of memory.
-pub fn along_report(alloc: Global, along: &ModesAlong) -> Result<Text, NoMemory>
-    requires { IsAlongHeld along.now }
-    ensures { IfOk result (λ text. text ≡ along_text along.now) }
-{
-    let document = along.file.divided.document();
-    report_along(
-        alloc,
-        document.format(),
-        along.name.as_slice(),
-        along.number,
-        document.irreps(),
-        &along.orbits,
-        &along.rows,
-    )
 }

@@ -1,20 +1,17 @@
 // What `modes` finds in a file.
-ghost use Rattle.std.specs.Prelude.{◌≡◌, IfOk};
+ghost use Rattle.std.specs.Prelude.{IfOk};
 ghost use Rattle.iso_text.specs.Ranges.{IsInRange};
-ghost use Rattle.wyckoff.specs.Orbit.{OrbitView};
 ghost use Rattle.report_steps.specs.HeldFiles.{AreInducedHeld};
 ghost use Rattle.report_steps.specs.IrrepSteps.{Each};
 ghost use Rattle.report_steps.specs.Steps.{Answers, OrWide};
 ghost use Rattle.mode_report.specs.Atoms.{RefusesAtoms};
 ghost use Rattle.mode_report.specs.Held.{AreOrbitsHeld, HasSizeOf, told_in};
 ghost use Rattle.mode_report.specs.ModesFound.{AreWideAll, AreToldOf};
-ghost use Rattle.mode_report.specs.ModesReport.{modes_text};
 
 use crate::atoms::orbits_of;
 use crate::orbit_modes::all_modes;
-use crate::report::modes_report;
 use crate::weights::weights_of;
-use iso_text::{NoMemory, Text};
+use iso_text::NoMemory;
 use mode_project::Modes;
 use report_steps::{InducedFile, Step};
 use std::alloc::Global;
@@ -52,23 +49,4 @@ pub fn modes_found(alloc: Global, file: &InducedFile) -> Result<Step<FoundModes>
         Step::Passed(orbits) => modes_at(alloc, file, orbits),
         Step::Refused(refusal) => Ok(Step::Refused(refusal)),
     }
-}
-
-/// The report of the modes that were found in a file.
-pub fn modes_text_of(
-    alloc: Global,
-    file: &InducedFile,
-    found: &FoundModes,
-) -> Result<Text, NoMemory>
-    requires { Each HasSizeOf found.now.orbits found.now.modes.items }
-    ensures { IfOk result (λ text. text ≡ modes_text file.now.divided.file.format (told_in file.now.divided.file.irreps found.now.orbits found.now.modes.items)) }
-{
-    let document = file.divided.document();
-    modes_report(
-        alloc,
-        document.format(),
-        document.irreps(),
-        &found.orbits,
-        &found.modes,
-    )
 }

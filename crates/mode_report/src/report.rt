@@ -1,175 +1,134 @@
-// The report of all modes.
-ghost use Rattle.std.specs.Prelude.{ℕ, ◌≡◌, ◌++◌, ◌<◌, ◌+◌, ◌*◌, [], IfOk, OnOk, Some, length, flat_map, map, slice_get, slice_index_or};
-ghost use Rattle.std.specs.List.{enumerate_from};
-ghost use Rattle.cyclo24.specs.ExactK24.{Exact24, k24_laws};
-ghost use Rattle.lin_alg.specs.Equations.{unit_vector};
-ghost use Rattle.wyckoff.specs.Orbit.{OrbitView};
-ghost use Rattle.mode_project.specs.ModesView.{ModesView, irrep_modes_in};
+// The report of all modes, in pieces.
+ghost use Rattle.std.specs.Prelude.{ℕ, List, ◌≡◌, ◌<◌, IfOk, Some, length, map, slice_get};
+ghost use Rattle.iso_text.specs.declared.sections.IrrepText.{IrrepText as Irrep};
+ghost use Rattle.mode_project.specs.ModesView.{count_in};
 ghost use Rattle.report_steps.specs.IrrepSteps.{Each};
-ghost use Rattle.mode_report.specs.AllModes.{name_at, named, told_sites};
-ghost use Rattle.mode_report.specs.Held.{HasSizeBy, HasSizeOf, told_of, told_in};
-ghost use Rattle.mode_report.specs.ModesReport.{each_of, modes_text, mode_text_by, orbit_text_by, orbits_text_by};
+ghost use Rattle.mode_report.specs.Held.{HasSizeBy, HasSizeOf, told_in};
+ghost use Rattle.mode_report.specs.ModesReport.{each_of, head_text};
+ghost use Rattle.mode_report.specs.Parts.{IsOrbitPart, IsModePart, IsPart, parts_of};
+ghost use Rattle.mode_report.specs.ReportPieces.{IsModesReport, modes_told};
+ghost use Rattle.mode_report.specs.Told.{OrbitModes};
+ghost use Rattle.mode_report.specs.declared.moves.AtomEntries.TheVariants as atom;
 
+use crate::found::FoundModes;
 use crate::head::modes_head;
-use crate::mode_text::{push_mode, push_site};
+use crate::mode_pieces::{mode_piece, orbit_front};
 use crate::moves::AtomEntries;
-use crate::orbit_text::{counts_text, push_orbit_front};
+use crate::parts::{Part, parts_of};
 use iso_text::{IrrepText, NoMemory, Text};
 use mode_project::Modes;
+use report_buffer::Report;
+use report_steps::{InducedFile, add};
 use std::alloc::Global;
-use wyckoff::{Orbit, Orbits};
+use wyckoff::Orbits;
 
-// The name of irrep j, nothing where there is none.
-fn name_of(irreps: &[IrrepText], j: usize) -> &[u8]
-    ensures { result.now ≡ name_at irreps.now j }
-{
-    if j < irreps.len() {
-        irreps[j].name.as_slice()
-    } else {
-        b""
+/// What is reported of all modes of the orbits of a file, with the table of the pieces of the report.
+#[derive(Drop)]
+pub struct ModesReport {
+    pub file: InducedFile,
+    pub found: FoundModes,
+    pub parts: Vec<Part>,
+}
+
+impl ModesReport {
+    /// The report of the modes that were found in a file. Condition: the modes have three numbers for
+    /// each atom. Errors: want of memory.
+    pub fn new(alloc: Global, file: InducedFile, found: FoundModes) -> Result<ModesReport, NoMemory>
+        requires { Each HasSizeOf found.orbits found.modes.items }
+        ensures fits { IfOk result IsModesReport }
+        ensures file { IfOk result (λ report. report.file ≡ file) }
+        ensures found { IfOk result (λ report. report.found ≡ found) }
+    {
+        let parts = modes_parts(alloc, &found.modes)?;
+        Ok(ModesReport { file, found, parts })
     }
 }
 
-// The name of the irrep of mode m.
-fn mode_name<'a>(irreps: &'a [IrrepText], found: &Modes, m: usize) -> &'a [u8]
-    requires { m < length found.now.rows }
-    ensures { result.now ≡ name_at irreps.now (slice_index_or found.now.rows m (0, [])).0 }
+// How many modes each orbit has.
+fn counts_of(alloc: Global, all: &[Modes]) -> Result<Vec<usize>, NoMemory>
+    ensures { IfOk result (λ counts. counts.items ≡ map count_in all.now) }
 {
-    match found.irrep_of(m) {
-        Some(j) => name_of(irreps, j),
-        None => b"",
-    }
-}
-
-// Adds the lines of mode m, which belongs to an irrep.
-fn push_irrep_mode(
-    alloc: Global,
-    text: &mut Text,
-    entries: AtomEntries,
-    irreps: &[IrrepText],
-    atoms: usize,
-    found: &Modes,
-    m: usize,
-) -> Result<(), NoMemory>
-    requires size { found.now.size ≡ atoms * each_of entries }
-    requires mode { m < length found.now.rows }
-    ensures { OnOk result ((r : ℕ × (ℕ → Exact24)) → slice_get (irrep_modes_in found.now) m ≡ Some r → text.new ≡ text.old ++ mode_text_by entries atoms (m + 1, named irreps.now r)) }
-{
-    let _modes = found.irrep_modes();
-    let name = mode_name(irreps, found, m);
-    push_mode(
-        alloc,
-        text,
-        entries,
-        atoms,
-        m as u64 + 1,
-        name,
-        found.row(m),
-    )
-}
-
-// Adds the lines of the modes of irreps.
-fn push_irrep_modes(
-    alloc: Global,
-    text: &mut Text,
-    entries: AtomEntries,
-    irreps: &[IrrepText],
-    atoms: usize,
-    found: &Modes,
-) -> Result<(), NoMemory>
-    requires { found.now.size ≡ atoms * each_of entries }
-    ensures { OnOk result (text.new ≡ text.old ++ flat_map (mode_text_by entries atoms) (enumerate_from 1 (map (named irreps.now) (irrep_modes_in found.now)))) }
-{
-    for m in 0..found.irrep_modes() {
-        push_irrep_mode(alloc, text, entries, irreps, atoms, found, m)?;
-    }
-    Ok(())
-}
-
-// Adds the lines of the modes of no irrep.
-fn push_sites(
-    alloc: Global,
-    text: &mut Text,
-    entries: AtomEntries,
-    atoms: usize,
-    found: &Modes,
-) -> Result<(), NoMemory>
-    requires { found.now.size ≡ atoms * each_of entries }
-    ensures { OnOk result (text.new ≡ text.old ++ flat_map (mode_text_by entries atoms) (enumerate_from (length found.now.rows + 1) (told_sites found.now.sites))) }
-{
-    let irrep = found.irrep_modes();
-    for s in 0..found.len() - irrep {
-        push_site(
-            alloc,
-            text,
-            entries,
-            atoms,
-            (irrep + s) as u64 + 1,
-            found.site(s),
-        )?;
-    }
-    Ok(())
-}
-
-// Adds the lines of an orbit under its number.
-fn push_orbit(
-    alloc: Global,
-    text: &mut Text,
-    entries: AtomEntries,
-    irreps: &[IrrepText],
-    number: u64,
-    orbit: &Orbit,
-    found: &Modes,
-) -> Result<(), NoMemory>
-    requires { HasSizeBy (each_of entries) orbit.now found.now }
-    ensures { OnOk result (text.new ≡ text.old ++ orbit_text_by entries (number, told_of irreps.now orbit.now found.now)) }
-{
-    let irrep = found.irrep_modes();
-    let counts = counts_text(alloc, irrep, found.len() - irrep)?;
-    push_orbit_front(alloc, text, number, orbit, &counts)?;
-    push_irrep_modes(alloc, text, entries, irreps, orbit.atoms(), found)?;
-    push_sites(alloc, text, entries, orbit.atoms(), found)
-}
-
-/// Adds the lines of the modes of all orbits, in the order of the atom lines, with so many numbers an
-/// atom. Condition: the modes have so many numbers for each atom. Errors: want of memory.
-pub fn push_orbits(
-    alloc: Global,
-    text: &mut Text,
-    entries: AtomEntries,
-    irreps: &[IrrepText],
-    orbits: &Orbits,
-    all: &[Modes],
-) -> Result<(), NoMemory>
-    requires { Each (HasSizeBy (each_of entries)) orbits.now all.now }
-    ensures { OnOk result (text.new ≡ text.old ++ orbits_text_by entries (told_in irreps.now orbits.now all.now)) }
-{
+    let mut counts: Vec<usize> = Vec::new(alloc);
     for i in 0..all.len() {
-        push_orbit(
-            alloc,
-            text,
-            entries,
-            irreps,
-            i as u64 + 1,
-            orbits.get(i),
-            &all[i],
-        )?;
+        add(&mut counts, all[i].len())?;
     }
-    Ok(())
+    Ok(counts)
 }
 
-/// The report of the modes of all orbits, in the order of the atom lines.
-pub fn modes_report(
+/// The table of the pieces of a report on orbits with these modes. Errors: want of memory.
+pub fn modes_parts(alloc: Global, all: &[Modes]) -> Result<Vec<Part>, NoMemory>
+    ensures { IfOk result (λ parts. parts.items ≡ parts_of (map count_in all.now)) }
+{
+    let counts = counts_of(alloc, all)?;
+    parts_of(alloc, &counts)
+}
+
+/// The first lines of orbit i: its line and its places. Condition: there are modes for each orbit.
+/// Errors: want of memory.
+pub fn orbit_part(alloc: Global, orbits: &Orbits, all: &[Modes], i: usize) -> Result<Text, NoMemory>
+    requires count { length orbits.now ≡ length all.now }
+    requires orbit { i < length all.now }
+    ensures { IfOk result (λ text. (irreps : List Irrep) → IsOrbitPart (told_in irreps orbits.now all.now) i text) }
+{
+    orbit_front(alloc, i as u64 + 1, orbits.get(i), &all[i])
+}
+
+/// The lines of mode m of orbit i, with so many numbers an atom. Condition: the modes have so many
+/// numbers for each atom. Errors: want of memory.
+pub fn mode_part(
     alloc: Global,
-    format: u8,
+    entries: AtomEntries,
     irreps: &[IrrepText],
     orbits: &Orbits,
     all: &[Modes],
+    i: usize,
+    m: usize,
 ) -> Result<Text, NoMemory>
-    requires { Each HasSizeOf orbits.now all.now }
-    ensures { IfOk result (λ text. text ≡ modes_text format (told_in irreps.now orbits.now all.now)) }
+    requires sizes { Each (HasSizeBy (each_of entries)) orbits.now all.now }
+    requires orbit { i < length all.now }
+    requires mode { (o : OrbitModes) → slice_get (told_in irreps.now orbits.now all.now) i ≡ Some o → m < length o.modes }
+    ensures { IfOk result (IsModePart entries (told_in irreps.now orbits.now all.now) i m) }
 {
-    let mut text = modes_head(alloc, format)?;
-    push_orbits(alloc, &mut text, AtomEntries::Three, irreps, orbits, all)?;
-    Ok(text)
+    mode_piece(alloc, entries, irreps, orbits.get(i), &all[i], m)
+}
+
+// The text of a piece.
+fn part_text(alloc: Global, report: &ModesReport, part: Part) -> Result<Text, NoMemory>
+    requires fits { IsModesReport report.now }
+    requires part { (text : List ℕ) × IsPart atom.Three (head_text report.now.file.divided.file.format) (modes_told report.now) part text }
+    ensures { IfOk result (IsPart atom.Three (head_text report.now.file.divided.file.format) (modes_told report.now) part) }
+{
+    let document = report.file.divided.document();
+    let orbits = &report.found.orbits;
+    let all = report.found.modes.as_slice();
+    match part {
+        Part::Front => modes_head(alloc, document.format()),
+        Part::Orbit(i) => orbit_part(alloc, orbits, all, i),
+        Part::Mode(i, m) => mode_part(
+            alloc,
+            AtomEntries::Three,
+            document.irreps(),
+            orbits,
+            all,
+            i,
+            m,
+        ),
+    }
+}
+
+/// The first line; and for each orbit its first lines, and each mode. Errors: want of memory.
+impl Report for ModesReport {
+    ghost use Rattle.mode_report.specs.ReportPieces.{IsModesReport, modes_pieces};
+
+    ghost fits = { IsModesReport };
+
+    ghost pieces = { modes_pieces };
+
+    fn count(&self) -> usize {
+        self.parts.len()
+    }
+
+    fn piece(&self, alloc: Global, number: usize) -> Result<Text, NoMemory> {
+        part_text(alloc, self, self.parts[number])
+    }
 }
