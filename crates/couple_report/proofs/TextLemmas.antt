@@ -1,15 +1,9 @@
 -- Reports, line by line.
-use Rattle.std.proofs.Common.{◌≡◌, sym, ap, ◌∙◌, subst, ℕ, ◌+◌, List, [], ◌∷◌, ◌++◌, map, length, flat_map, Result, IfOk, append_assoc, arith}
+use Rattle.std.proofs.Common.{◌≡◌, sym, ap, ◌∙◌, ℕ, ◌+◌, List, [], ◌∷◌, ◌++◌, map, flat_map, append_assoc, arith}
 use Rattle.std.specs.List.{range_with_len}
 use Rattle.std.proofs.lemmas.Grind.{flat_map-append}
 use Rattle.std.proofs.lemmas.List.{append-nil}
-use Rattle.std.proofs.lemmas.List.FromFn.{length-map-range_with_len, map-range_with_len_more}
-use Rattle.cyclo24.specs.declared.z24.Z24.{Z24}
-use Rattle.lin_alg.specs.Matrix.{MatrixView}
-use Rattle.couple.specs.declared.links.Link.{Link}
-use Rattle.couple.specs.declared.links.Link.TheVariants.{Found}
-use Rattle.couple_report.specs.FoundLink.{row_in, rows_in, link_in}
-use Rattle.couple_report.specs.LinkReport.{row_line, rank_line, link_lines}
+use Rattle.std.proofs.lemmas.List.FromFn.{map-range_with_len_more}
 
 -- a line with one more behind it
 pub line-behind : (l i t0 t1 t2 : List ℕ) → t0 ≡ l ++ (10 ∷ []) → t1 ≡ t0 ++ i → t2 ≡ t1 ++ (10 ∷ []) → t2 ≡ l ++ (10 ∷ (i ++ (10 ∷ [])))

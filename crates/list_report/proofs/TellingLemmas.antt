@@ -63,7 +63,7 @@ no-refusal : (t : List ℕ) (r : Refusal) → report t ≡ refused r → ⊥
 no-refusal t r e = cc
 
 -- the finding of the listing that passed
-pub told-passed : (wanted : Option (List ℕ)) (after : ℕ) (count : Option ℕ) (tally : Bool) (ws new : List Watcher) (d : Divided) (l : ListedIrrep) (f : Finding)
+told-passed : (wanted : Option (List ℕ)) (after : ℕ) (count : Option ℕ) (tally : Bool) (ws new : List Watcher) (d : Divided) (l : ListedIrrep) (f : Finding)
     → IsListedThen wanted (IsTheOne after count (step.Passed l)) d (report (listed_text l)) → IsTold l.after l.count tally ws new (listed_in l) f → IsListedThen wanted (IsTold after count tally ws new) d f
 told-passed wanted after count tally ws new d l f found told =
     listed-moved wanted (IsTheOne after count (step.Passed l)) (IsTold after count tally ws new) d (report (listed_text l)) f
@@ -76,7 +76,7 @@ told-passed wanted after count tally ws new d l f found told =
     found
 
 -- a refusal
-pub told-refused : (wanted : Option (List ℕ)) (after : ℕ) (count : Option ℕ) (tally : Bool) (ws new : List Watcher) (d : Divided) (r : Refusal)
+told-refused : (wanted : Option (List ℕ)) (after : ℕ) (count : Option ℕ) (tally : Bool) (ws new : List Watcher) (d : Divided) (r : Refusal)
     → IsListedThen wanted (IsTheOne after count (step.Refused r)) d (refused r) → IsListedThen wanted (IsTold after count tally ws new) d (refused r)
 told-refused wanted after count tally ws new d r found =
     listed-moved wanted (IsTheOne after count (step.Refused r)) (IsTold after count tally ws new) d (refused r) (refused r) (λ q e. e) (λ m none. absurd none) found

@@ -3,7 +3,8 @@
 //! An irrep is chosen (`place_of`), its real form found (`form_of`), the fixed subspaces of that closed
 //! (`closed`), and the directions of their classes listed (`directions`). Conventions: an order
 //! parameter is a column; elements are numbered from 0, directions from 1. The layer above uses
-//! `list_found` and `listed_text`.
+//! `list_found` and `listed_text`, or, with watchers, `list_told` and the report of a `ToldListing` in
+//! pieces.
 #![tactic(auto)]
 
 mod choice;

@@ -1,4 +1,4 @@
-use Rattle.std.proofs.Common.{◌≡◌, ◌∙◌, sym, subst, [], List, ℕ, Result, IfOk}
+use Rattle.std.proofs.Common.{◌≡◌, ◌∙◌, sym, subst, [], List, ℕ, IfOk}
 use Rattle.std.proofs.lemmas.List.{length-map}
 use Rattle.cyclo24.specs.ExactK24.{k24_laws}
 use Rattle.cyclo24.specs.K24.{exact24}

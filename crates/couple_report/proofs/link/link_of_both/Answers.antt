@@ -11,4 +11,4 @@ returns-in-Err-Wide-clause-answer c format i j a b =
     link-wide format c.args.quotient.now i j c.args.left.now c.args.right.now a b e.family (rw e.field-0-is at e.ensures.cause)
 
 pub returns-in-Ok-clause-few : goal.returns-in-Ok-clause-few
-returns-in-Ok-clause-few c = few-rows c.args.quotient.now c.args.left.now c.args.right.now c.in-Ok.link (subst (λ n. n ≤ 288) c.dim.ensures.value c.dim.ensures.few) c.in-Ok.ensures.link
+returns-in-Ok-clause-few c = few-rows c.args.quotient.now c.args.left.now c.args.right.now c.in-Ok.link (subst (λ n. n ≤ 288) c.dim-rows.ensures.value c.dim-rows.ensures.few) c.in-Ok.ensures.link

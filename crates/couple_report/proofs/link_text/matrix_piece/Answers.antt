@@ -1,4 +1,4 @@
-use Rattle.std.proofs.Common.{◌≡◌, ◌<◌, ◌-◌, arith}
+use Rattle.std.proofs.Common.{arith}
 use Rattle.std.proofs.lemmas.Result.{IfOk-weaker}
 use Rattle.couple_report.proofs.JoinLemmas.{row-piece}
 use Rattle.couple_report.proofs.link_text.matrix_piece.Goals as goal
