@@ -1,14 +1,13 @@
 -- The lines of the amplitudes that the program holds, and of the orbits.
 use Rattle.std.proofs.Common.{◌≡◌, refl, sym, ap, ◌∙◌, ℕ, zero, suc, ◌+◌, ◌<◌, ◌≤◌, Bool, cond, List, [], ◌∷◌, ◌++◌, length, take, get_or, map, flat_map, count_by, codes, arith, append_assoc, Some, slice_get}
 use Rattle.std.specs.List.{enumerate_from}
-use Rattle.std.proofs.lemmas.List.{get_or-map, length-map}
+use Rattle.std.proofs.lemmas.List.{get_or-map}
 use Rattle.std.proofs.lemmas.List.Sums.{sum_by-cons}
 use Rattle.std.proofs.lemmas.Option.{same_Some, none-some}
 use Rattle.cyclo24.specs.declared.k24.K24.{K24}
 use Rattle.cyclo24.specs.ExactK24.{Exact24, k24_laws}
 use Rattle.cyclo24.specs.K24.{exact24}
 use Rattle.iso_text.specs.declared.sections.IrrepText.{IrrepText}
-use Rattle.lin_alg.specs.Equations.{unit_vector}
 use Rattle.lin_alg.specs.Rows.{exact_rows, vector}
 use Rattle.wyckoff.specs.Orbit.{OrbitView}
 use Rattle.mode_project.specs.ModesView.{ModesView, irrep_modes_in}
