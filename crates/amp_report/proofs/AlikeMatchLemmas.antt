@@ -1,5 +1,5 @@
 -- Orbits with the same labels and places are matched alike.
-use Rattle.std.proofs.Common.{◌≡◌, sym, ◌∙◌, subst, ◌⊎◌, inl, inr, ℕ, ◌<◌, ℤ, List, length, Option, Some, slice_get, slice_index_or, []}
+use Rattle.std.proofs.Common.{◌≡◌, sym, ◌∙◌, subst, ◌⊎◌, inl, inr, ℕ, ◌<◌, ℤ, List, length, Option, slice_index_or, []}
 use Rattle.iso_text.specs.declared.sections.AtomText.{AtomText}
 use Rattle.iso_text.specs.declared.sections.CellText.{CellText}
 use Rattle.space_ops.specs.Matrix.{Vector}

@@ -1,5 +1,5 @@
 -- What the program holds of displacements and their amplitudes, as the definitions name it.
-use Rattle.std.proofs.Common.{◌≡◌, refl, sym, inl, inr, ℕ, ◌*◌, ℤ, List, length, arith, Some, slice_get}
+use Rattle.std.proofs.Common.{◌≡◌, refl, inl, inr, ℕ, ℤ, List, arith, Some, slice_get}
 use Rattle.std.proofs.lemmas.Option.{slice_get_within}
 use Rattle.wyckoff.specs.Orbit.{OrbitView}
 use Rattle.distort_match.specs.Outcomes.{AreShiftsOf}

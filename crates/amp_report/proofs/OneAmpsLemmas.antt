@@ -1,16 +1,13 @@
 -- What `amps` finds in a file is one.
-use Rattle.std.proofs.Common.{◌≡◌, refl, sym, ap, ◌∙◌, subst, ℕ, suc, ◌+◌, ◌*◌, ◌<◌, ℤ, pos, ◌<ℤ◌, List, [], ◌∷◌, length, get_or, ext_get_or, unwrap_or, arith}
-use Rattle.std.proofs.lemmas.Option.{same_Some, slice_get-get_or}
-use Rattle.cyclo24.specs.ExactK24.{Exact24, k24_laws}
+use Rattle.std.proofs.Common.{◌≡◌, refl, sym, ap, ◌∙◌, subst, ℕ, ℤ, pos, ◌<ℤ◌, List, unwrap_or}
+use Rattle.cyclo24.specs.ExactK24.{Exact24}
 use Rattle.super_group.specs.Quotient.{IsQuotient}
 use Rattle.wyckoff.specs.Orbit.{OrbitView}
 use Rattle.distort_match.specs.Matches.{Matching}
 use Rattle.distort_match.specs.Outcomes.{AreShiftsOf, IsMatchCause}
 use Rattle.distort_match.specs.declared.errors.MatchError.{MatchError}
 use Rattle.distort_match.specs.declared.errors.MatchError.TheVariants as match_error
-use Rattle.mode_project.specs.Amplitudes.{AreAmplitudes, IsModeBasis}
-use Rattle.mode_project.specs.AtomSpace.{AtomSpace, size_of, displacements}
-use Rattle.mode_project.specs.Modes.{AreModes, all_modes, vector_at}
+use Rattle.mode_project.specs.AtomSpace.{displacements}
 use Rattle.mode_project.specs.OrbitAmplitudes.{displacement_of}
 use Rattle.report_steps.specs.Contexts.{Divided}
 use Rattle.report_steps.specs.Finding.{report}
@@ -19,13 +16,11 @@ use Rattle.report_steps.specs.StepLaws.{IsSingleAt, FindsOneAt, IsSingleFor, Fin
 use Rattle.report_steps.specs.Steps.{never}
 use Rattle.report_steps.specs.declared.refusal.Refusal.{Refusal}
 use Rattle.report_steps.specs.declared.refusal.Refusal.TheVariants as refusal
-use Rattle.mode_report.specs.AllModes.{told_modes}
 use Rattle.mode_report.specs.Atoms.{RefusesAtoms}
 use Rattle.mode_report.specs.ModesFound.{AreWideAll, AreToldOf}
-use Rattle.amp_report.specs.AmpsFound.{Moded, IsBasisOf, HaveOrbitModes, matching_of, Shifted, RefusesMatching, RefusesMatch, HaveShifts, AreWideAmplitudes, named_amplitudes, IsToldOf, HaveAmplitudes, RefusesNone, IsReported, AfterShifts, AfterModes, AreAmpsFound}
-use Rattle.amp_report.specs.AmpsReport.{OrbitAmplitudes, amps_text}
+use Rattle.amp_report.specs.AmpsFound.{Moded, IsBasisOf, HaveOrbitModes, matching_of, Shifted, RefusesMatching, RefusesMatch, HaveShifts, AreWideAmplitudes, HaveAmplitudes, RefusesNone, IsReported, AfterShifts, AfterModes, AreAmpsFound}
+use Rattle.amp_report.specs.AmpsReport.{amps_text}
 use Rattle.amp_report.proofs.AlikeMatchLemmas.{cause-alike, shifts-alike}
-use Rattle.amp_report.specs.AmpListLaws.{each-there}
 use Rattle.amp_report.proofs.MatchCauseLemmas.{IsAnswer, causes-one, shifts-or-cause}
 use Rattle.amp_report.proofs.MatchShiftLemmas.{HaveOneDisplacement, HaveOnePlace, shifts-one}
 use Rattle.mode_report.specs.OneWeightLaws.{InduceOne, HaveOneOrbit, HaveOneBasis}

@@ -1,14 +1,13 @@
 -- The lines of the amplitudes that the program holds, and of the orbits.
 use Rattle.std.proofs.Common.{◌≡◌, refl, sym, ap, ◌∙◌, ℕ, zero, suc, ◌+◌, ◌<◌, ◌≤◌, Bool, cond, List, [], ◌∷◌, ◌++◌, length, take, get_or, map, flat_map, count_by, codes, arith, append_assoc, Some, slice_get}
 use Rattle.std.specs.List.{enumerate_from}
-use Rattle.std.proofs.lemmas.List.{get_or-map, length-map}
+use Rattle.std.proofs.lemmas.List.{get_or-map}
 use Rattle.std.proofs.lemmas.List.Sums.{sum_by-cons}
 use Rattle.std.proofs.lemmas.Option.{same_Some, none-some}
 use Rattle.cyclo24.specs.declared.k24.K24.{K24}
 use Rattle.cyclo24.specs.ExactK24.{Exact24, k24_laws}
 use Rattle.cyclo24.specs.K24.{exact24}
 use Rattle.iso_text.specs.declared.sections.IrrepText.{IrrepText}
-use Rattle.lin_alg.specs.Equations.{unit_vector}
 use Rattle.lin_alg.specs.Rows.{exact_rows, vector}
 use Rattle.wyckoff.specs.Orbit.{OrbitView}
 use Rattle.mode_project.specs.ModesView.{ModesView, irrep_modes_in}
@@ -132,10 +131,3 @@ told-at irreps (x ∷ orbits) [] rows i o m a d s e l f k = absurd (omega arith)
 told-at irreps (x ∷ orbits) (y ∷ all) [] i o m a d s e l f k = absurd (omega arith)
 told-at irreps (x ∷ orbits) (y ∷ all) (z ∷ rows) zero o m a d s e l f k = λ j. told_of irreps (sym (same_Some x o s) j) (e j) (f j)
 told-at irreps (x ∷ orbits) (y ∷ all) (z ∷ rows) (suc i) o m a d s e l f k = told-at irreps orbits all rows i o m a d s e (omega arith) f (omega arith)
-
-pub told-length : (irreps : List IrrepText) (orbits : List OrbitView) (all : List ModesView) (rows : List (List K24)) → length orbits ≡ length all → length all ≡ length rows → length (told_in irreps orbits all rows) ≡ length all
-told-length irreps [] [] rows e f = refl
-told-length irreps [] (m ∷ all) rows e f = absurd (omega arith)
-told-length irreps (o ∷ orbits) [] rows e f = refl
-told-length irreps (o ∷ orbits) (m ∷ all) [] e f = absurd (omega arith)
-told-length irreps (o ∷ orbits) (m ∷ all) (a ∷ rows) e f = ap suc (told-length irreps orbits all rows (omega arith) (omega arith))

@@ -1,6 +1,7 @@
 -- What the program holds of modes and amplitudes, as the definitions name it. The space of the atoms of an orbit is a
 -- variable, with how many numbers an atom has, and so are the numbers whose amplitudes are found.
 --
+-- told-length: something is told of each orbit
 -- modes-held, answers-modes: the modes of all orbits
 -- count, size-at, some-at: modes have so many numbers, and are those of an orbit
 -- rows-wide, rows-told, rows-held: amplitudes of all orbits
@@ -34,6 +35,15 @@ use Rattle.amp_report.specs.AmpListLaws.{there, last-or-before, each-there, each
 use Rattle.amp_report.specs.AmpsFound.{IsBasisBy, AreWideNumbers, HaveAmplitudesBy}
 use Rattle.amp_report.specs.AmpsReport.{OrbitAmplitudes}
 use Rattle.amp_report.specs.Held.{basis_in, moded_in, AreModesHeldBy, IsWideRowBy, IsWideSomeRowBy, IsRowBy, AreRowsBy, HasRow, told_of, told_in}
+
+-- ---- orbits
+
+pub told-length : (irreps : List IrrepText) (orbits : List OrbitView) (all : List ModesView) (rows : List (List K24)) → length orbits ≡ length all → length all ≡ length rows → length (told_in irreps orbits all rows) ≡ length all
+told-length irreps [] [] rows e f = refl
+told-length irreps [] (m ∷ all) rows e f = absurd (omega arith)
+told-length irreps (o ∷ orbits) [] rows e f = refl
+told-length irreps (o ∷ orbits) (m ∷ all) [] e f = absurd (omega arith)
+told-length irreps (o ∷ orbits) (m ∷ all) (a ∷ rows) e f = ap suc (told-length irreps orbits all rows (omega arith) (omega arith))
 
 -- ---- modes
 
@@ -101,15 +111,9 @@ module _ (space : SupercellGroup → OrbitView → AtomSpace) (numbers : ℕ) (d
   told-there irreps (o ∷ os) (m ∷ ms) (a ∷ rows) zero t s = (o, m, a, refl, refl, refl, sym (same_Some _ t s))
   told-there irreps (o ∷ os) (m ∷ ms) (a ∷ rows) (suc n) t s = told-there irreps os ms rows n t s
 
-  told-count : (irreps : List IrrepText) (os : List OrbitView) (ms : List ModesView) (rows : List (List K24)) → length os ≡ length ms → length rows ≡ length ms → length (told_in irreps os ms rows) ≡ length os
-  told-count irreps [] ms rows e f = refl
-  told-count irreps (o ∷ os) [] rows e f = absurd (omega arith)
-  told-count irreps (o ∷ os) (m ∷ ms) [] e f = absurd (omega arith)
-  told-count irreps (o ∷ os) (m ∷ ms) (a ∷ rows) e f = ap suc (told-count irreps os ms rows (omega arith) (omega arith))
-
   pub rows-told : (v : ℕ → ℕ → Exact24) (rows : List (List K24)) → AreRowsBy all v (length all) rows → HaveAmplitudesBy numbers (moded_in d orbits all) v (told_in d.file.irreps orbits all rows)
   rows-told v rows x = record {
-    count = told-count d.file.irreps orbits all rows count x.count;
+    count = told-length d.file.irreps orbits all rows count (sym x.count) ∙ sym count;
     each = λ n t s.
         let w = told-there d.file.irreps orbits all rows n t s in
         let o = w.0 in

@@ -16,3 +16,5 @@ pub mod OneModesLaws
 pub mod OneAmplitudesLaws
 -- what is found for `amps`, by the program's answer
 pub mod FoundAmps
+-- the pieces of the report of `amps`
+pub mod AmpsPieces

@@ -1,20 +1,19 @@
 // What `amps` finds in a file.
-ghost use Rattle.std.specs.Prelude.{◌≡◌, IfOk};
+ghost use Rattle.std.specs.Prelude.{IfOk};
 ghost use Rattle.iso_text.specs.Ranges.{IsInRange};
 ghost use Rattle.distort_match.specs.Outcomes.{AreShiftsOf};
 ghost use Rattle.report_steps.specs.HeldFiles.{AreInducedHeld};
 ghost use Rattle.mode_report.specs.Held.{AreOrbitsHeld};
 ghost use Rattle.amp_report.specs.AmpsFound.{matching_of, AfterShifts, AfterModes, AreAmpsFound};
-ghost use Rattle.amp_report.specs.FoundAmps.{FindsAmps, AreAmpsHeld, amps_of};
+ghost use Rattle.amp_report.specs.FoundAmps.{FindsAmps};
 ghost use Rattle.amp_report.specs.Held.{AreModesHeld, moded_in, shifted_in};
 
 use crate::modes::modes_at;
-use crate::report::report_of;
 use crate::rows::rows_of;
 use crate::shifts::shifts_at;
 use cyclo24::K24;
 use distort_match::Shifts;
-use iso_text::{NoMemory, Text};
+use iso_text::NoMemory;
 use lin_alg::Row;
 use mode_project::Modes;
 use mode_report::orbits_of;
@@ -101,21 +100,4 @@ pub fn amps_found(alloc: Global, file: InducedFile) -> Result<Step<FoundAmplitud
         Step::Passed(orbits) => after_orbits(alloc, file, orbits),
         Step::Refused(refusal) => Ok(Step::Refused(refusal)),
     }
-}
-
-/// The report of amplitudes. Condition: there are modes for each orbit, with a number for each. Errors:
-/// want of memory.
-pub fn amps_report(alloc: Global, found: &FoundAmplitudes) -> Result<Text, NoMemory>
-    requires { AreAmpsHeld found.now }
-    ensures { IfOk result (λ text. text ≡ amps_of found.now) }
-{
-    let document = found.file.divided.document();
-    report_of(
-        alloc,
-        document.format(),
-        document.irreps(),
-        &found.orbits,
-        &found.modes,
-        &found.rows,
-    )
 }

@@ -1,10 +1,14 @@
-// What `amps` finds settled, as the contract of a function that does nothing.
-ghost use Rattle.std.specs.Prelude.{pos, ◌<ℤ◌, unwrap_or};
+// Laws over the definitions, as contracts of functions that do nothing.
+ghost use Rattle.std.specs.Prelude.{◌≡◌, pos, ◌<ℤ◌, unwrap_or};
+ghost use Rattle.std.specs.List.{concat};
 ghost use Rattle.super_group.specs.Quotient.{IsQuotient};
 ghost use Rattle.report_steps.specs.Contexts.{Divided};
 ghost use Rattle.report_steps.specs.StepLaws.{FindsOneAt};
 ghost use Rattle.amp_report.specs.AmpsFound.{AreAmpsFound};
+ghost use Rattle.amp_report.specs.AmpsPieces.{amps_pieces};
+ghost use Rattle.amp_report.specs.FoundAmps.{amps_of};
 
+use crate::found::FoundAmplitudes;
 use cyclo24::K24;
 use distort_match::law_of_matches;
 use mode_project::{law_of_amplitudes, law_of_one_basis, law_of_one_orbit};
@@ -23,3 +27,8 @@ pub fn law_of_amps_found()
     law_of_one_orbit();
     law_of_irreps();
 }
+
+/// The pieces of the report of amplitudes, one behind the other, are the report.
+pub fn law_of_amps_pieces()
+    ensures { (f : FoundAmplitudes) → concat (amps_pieces f) ≡ amps_of f }
+{}

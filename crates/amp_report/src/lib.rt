@@ -12,6 +12,6 @@ mod report;
 mod rows;
 mod shifts;
 
-pub use found::{FoundAmplitudes, amps_found, amps_report};
-pub use laws::law_of_amps_found;
-pub use report::push_orbits;
+pub use found::{FoundAmplitudes, amps_found};
+pub use laws::{law_of_amps_found, law_of_amps_pieces};
+pub use report::orbit_piece;

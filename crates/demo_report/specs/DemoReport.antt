@@ -2,6 +2,7 @@
 --
 -- orders_of ds: the orders of the stabilisers of directions
 -- title_line format number, size_line order dim, count_line count, orders_line orders: the lines in front of the orbits
+-- front_text format number order dim orders: these four
 -- orbit_line (number, told), orbit_lines told: those of the orbits
 -- summary_text format number order dim orders told: the whole report
 use Rattle.std.specs.Prelude.{ℕ, List, [], ◌++◌, length, map, flat_map, codes, decimal}
@@ -33,6 +34,9 @@ count_line count = line (codes "directions " ++ decimal count) []
 abbrev pub orders_line : List ℕ → List ℕ
 orders_line orders = line (codes "orders" ++ flat_map order_word orders) []
 
+abbrev pub front_text : ℕ → ℕ → ℕ → ℕ → List ℕ → List ℕ
+front_text format number order dim orders = title_line format number ++ size_line order dim ++ count_line (length orders) ++ orders_line orders
+
 -- `orbit NUMBER LABEL atoms N` and its counts
 abbrev pub orbit_line : ℕ × OrbitModes → List ℕ
 orbit_line o = line (codes "orbit " ++ decimal o.0 ++ codes " " ++ o.1.label ++ codes " atoms " ++ decimal (length o.1.places) ++ o.1.counts) []
@@ -41,4 +45,4 @@ abbrev pub orbit_lines : List OrbitModes → List ℕ
 orbit_lines told = flat_map orbit_line (enumerate_from 1 told)
 
 abbrev pub summary_text : ℕ → ℕ → ℕ → ℕ → List ℕ → List OrbitModes → List ℕ
-summary_text format number order dim orders told = title_line format number ++ size_line order dim ++ count_line (length orders) ++ orders_line orders ++ orbit_lines told
+summary_text format number order dim orders told = front_text format number order dim orders ++ orbit_lines told

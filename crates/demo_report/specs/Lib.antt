@@ -6,3 +6,5 @@ pub mod DemoReport
 pub mod DemoFound
 -- what is found for `demo`, by the program's answer
 pub mod FoundDemo
+-- the pieces of the report of `demo`
+pub mod DemoPieces

@@ -2,7 +2,7 @@
 //! the modes of its atoms.
 //!
 //! Conventions: an order is a count of elements of the quotient; orbits are numbered from 1 in the report.
-//! The layer above uses `demo_found` and `demo_report`.
+//! The layer above uses `demo_found`, and `FoundDemo` as a `Report`.
 #![tactic(auto)]
 
 mod found;
@@ -11,5 +11,4 @@ mod orbit_lines;
 mod report;
 
 pub use found::{FoundDemo, demo_found};
-pub use laws::law_of_demo_found;
-pub use report::demo_report;
+pub use laws::{law_of_demo_found, law_of_demo_pieces};

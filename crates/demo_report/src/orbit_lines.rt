@@ -1,9 +1,10 @@
 // The lines of the orbits.
-ghost use Rattle.std.specs.Prelude.{◌≡◌, ◌++◌, List, OnOk};
+ghost use Rattle.std.specs.Prelude.{◌≡◌, ◌<◌, ◌++◌, List, IfOk, OnOk, Some, length, map, slice_get};
+ghost use Rattle.std.specs.List.{enumerate_from};
 ghost use Rattle.iso_text.specs.declared.sections.IrrepText.{IrrepText};
 ghost use Rattle.report_steps.specs.IrrepSteps.{Each};
 ghost use Rattle.mode_report.specs.Held.{HasSizeOf, told_of, told_in};
-ghost use Rattle.demo_report.specs.DemoReport.{orbit_line, orbit_lines};
+ghost use Rattle.demo_report.specs.DemoReport.{orbit_line};
 
 use iso_text::{NoMemory, Text};
 use mode_project::Modes;
@@ -32,18 +33,19 @@ fn push_orbit(
     )
 }
 
-/// Adds the lines of all orbits, by their modes.
-pub fn push_orbits(
+/// The line of orbit i under its number in the report, by its modes. Condition: there are modes for each
+/// orbit. Errors: want of memory.
+pub fn orbit_piece(
     alloc: Global,
-    text: &mut Text,
     orbits: &Orbits,
     all: &[Modes],
-) -> Result<(), NoMemory>
-    requires { Each HasSizeOf orbits.now all.now }
-    ensures { OnOk result ((irreps : List IrrepText) → text.new ≡ text.old ++ orbit_lines (told_in irreps orbits.now all.now)) }
+    i: usize,
+) -> Result<Text, NoMemory>
+    requires held { Each HasSizeOf orbits.now all.now }
+    requires orbit { i < length all.now }
+    ensures { IfOk result (λ text. (irreps : List IrrepText) → slice_get (map orbit_line (enumerate_from 1 (told_in irreps orbits.now all.now))) i ≡ Some text) }
 {
-    for i in 0..all.len() {
-        push_orbit(alloc, text, i as u64 + 1, orbits.get(i), &all[i])?;
-    }
-    Ok(())
+    let mut text = Text::new(alloc);
+    push_orbit(alloc, &mut text, i as u64 + 1, orbits.get(i), &all[i])?;
+    Ok(text)
 }

@@ -1,16 +1,18 @@
-// The report of `demo`.
-ghost use Rattle.std.specs.Prelude.{◌≡◌, ◌++◌, IfOk, OnOk, flat_map};
+// The report of `demo`, in pieces.
+ghost use Rattle.std.specs.Prelude.{◌≡◌, ◌<◌, ◌++◌, IfOk, OnOk, Some, flat_map, length, slice_get};
 ghost use Rattle.cyclo24.specs.ExactK24.{k24_laws};
 ghost use Rattle.cyclo24.specs.K24.{exact24};
 ghost use Rattle.class_list.specs.Seen.{directions_of};
+ghost use Rattle.demo_report.specs.DemoPieces.{front_of, orbit_pieces};
 ghost use Rattle.demo_report.specs.DemoReport.{order_word, orders_of, title_line, size_line, count_line, orders_line};
-ghost use Rattle.demo_report.specs.FoundDemo.{IsDemoHeld, summary_of};
+ghost use Rattle.demo_report.specs.FoundDemo.{IsDemoHeld};
 
 use crate::found::FoundDemo;
-use crate::orbit_lines::push_orbits;
+use crate::orbit_lines::orbit_piece;
 use class_list::Listing;
 use cyclo24::K24;
 use iso_text::{NoMemory, Text};
+use report_buffer::Report;
 use std::alloc::Global;
 
 // The line of the file's format and number.
@@ -72,10 +74,9 @@ fn orders_line(alloc: Global, listing: &Listing<K24>) -> Result<Text, NoMemory>
     Ok(text)
 }
 
-/// The summary of a generated file. Condition: there are modes for each orbit. Errors: want of memory.
-pub fn demo_report(alloc: Global, found: &FoundDemo) -> Result<Text, NoMemory>
-    requires { IsDemoHeld found.now }
-    ensures { IfOk result (λ text. text ≡ summary_of found.now) }
+// The lines in front of the orbits.
+fn front(alloc: Global, found: &FoundDemo) -> Result<Text, NoMemory>
+    ensures { IfOk result (λ text. text ≡ front_of found.now) }
 {
     let divided = &found.file.divided;
     let mut text = title_line(alloc, divided.document().format(), found.number)?;
@@ -85,6 +86,36 @@ pub fn demo_report(alloc: Global, found: &FoundDemo) -> Result<Text, NoMemory>
     text.push(count.as_slice())?;
     let orders = orders_line(alloc, &found.listing)?;
     text.push(orders.as_slice())?;
-    push_orbits(alloc, &mut text, &found.modes.orbits, &found.modes.modes)?;
     Ok(text)
+}
+
+// The line of orbit i of a generated file.
+fn found_piece(alloc: Global, found: &FoundDemo, i: usize) -> Result<Text, NoMemory>
+    requires held { IsDemoHeld found.now }
+    requires orbit { i < length found.now.modes.modes.items }
+    ensures { IfOk result (λ text. slice_get (orbit_pieces found.now) i ≡ Some text) }
+{
+    orbit_piece(alloc, &found.modes.orbits, &found.modes.modes, i)
+}
+
+/// The summary of a generated file: the lines in front of the orbits, and the line of each orbit in the
+/// order of the atom lines. Condition: there are modes for each orbit. Errors: want of memory.
+impl Report for FoundDemo {
+    ghost use Rattle.demo_report.specs.DemoPieces.{demo_pieces};
+    ghost use Rattle.demo_report.specs.FoundDemo.{IsDemoHeld};
+
+    ghost fits = { IsDemoHeld };
+
+    ghost pieces = { demo_pieces };
+
+    fn count(&self) -> usize {
+        self.modes.modes.len() + 1
+    }
+
+    fn piece(&self, alloc: Global, number: usize) -> Result<Text, NoMemory> {
+        if number == 0 {
+            return front(alloc, self);
+        }
+        found_piece(alloc, self, number - 1)
+    }
 }

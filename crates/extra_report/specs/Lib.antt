@@ -12,3 +12,5 @@ pub mod ExtraPieces
 pub mod ExtraAmpsFound
 -- what is found for them, by the program's answer
 pub mod FoundExtraAmps
+-- the pieces of the reports of `occ-amps` and `axial-amps`
+pub mod ExtraAmpsPieces

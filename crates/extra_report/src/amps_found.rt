@@ -1,5 +1,5 @@
 // What `occ-amps` and `axial-amps` find in a file.
-ghost use Rattle.std.specs.Prelude.{◌≡◌, IfOk};
+ghost use Rattle.std.specs.Prelude.{IfOk};
 ghost use Rattle.iso_text.specs.Ranges.{IsInRange};
 ghost use Rattle.extra_modes.specs.Amounts.{AreAmounts};
 ghost use Rattle.extra_modes.specs.ExtraSpace.{extra_space};
@@ -9,16 +9,14 @@ ghost use Rattle.mode_report.specs.ModesReport.{each_of};
 ghost use Rattle.amp_report.specs.Held.{AreModesHeldBy, moded_in};
 ghost use Rattle.extra_report.specs.ExtraAmpsFound.{AfterAmounts, AfterModes, AreExtraAmpsFound, naming_in};
 ghost use Rattle.extra_report.specs.ExtraReport.{entries_of};
-ghost use Rattle.extra_report.specs.FoundExtraAmps.{FindsExtraAmps, AreExtraAmpsHeld, extra_amps_of};
+ghost use Rattle.extra_report.specs.FoundExtraAmps.{FindsExtraAmps};
 
 use crate::gathered::amounts_at;
-use crate::head::{amps_word_of, head};
 use crate::orbit_modes::all_modes;
 use crate::rows::rows_of;
-use amp_report::push_orbits;
 use cyclo24::K24;
 use extra_modes::{Amounts, ExtraModes, Nature};
-use iso_text::{NoMemory, Text};
+use iso_text::NoMemory;
 use lin_alg::Row;
 use mode_report::orbits_of;
 use report_steps::{InducedFile, Step};
@@ -119,23 +117,4 @@ pub fn extra_amps_found(
         Step::Passed(orbits) => after_orbits(alloc, file, nature, orbits),
         Step::Refused(refusal) => Ok(Step::Refused(refusal)),
     }
-}
-
-/// The report of amplitudes. Condition: there are modes for each orbit, with a number for each. Errors:
-/// want of memory.
-pub fn extra_amps_report(alloc: Global, found: &FoundExtraAmps) -> Result<Text, NoMemory>
-    requires { AreExtraAmpsHeld found.now }
-    ensures { IfOk result (λ text. text ≡ extra_amps_of found.now) }
-{
-    let document = found.file.divided.document();
-    let mut text = head(alloc, document.format(), amps_word_of(found.nature))?;
-    push_orbits(
-        alloc,
-        &mut text,
-        document.irreps(),
-        &found.orbits,
-        &found.modes,
-        &found.rows,
-    )?;
-    Ok(text)
 }

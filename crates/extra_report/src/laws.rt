@@ -1,4 +1,4 @@
-// What is found settled, as contracts of functions that do nothing.
+// Laws over the definitions, as contracts of functions that do nothing.
 ghost use Rattle.std.specs.Prelude.{◌≡◌};
 ghost use Rattle.std.specs.List.{concat};
 ghost use Rattle.super_group.specs.Quotient.{IsQuotient};
@@ -7,9 +7,12 @@ ghost use Rattle.report_steps.specs.StepLaws.{FindsOneAt};
 ghost use Rattle.extra_modes.specs.declared.nature.Nature.{Nature};
 ghost use Rattle.extra_report.specs.ExtraFound.{AreExtraFound};
 ghost use Rattle.extra_report.specs.ExtraAmpsFound.{AreExtraAmpsFound};
+ghost use Rattle.extra_report.specs.ExtraAmpsPieces.{extra_amps_pieces};
 ghost use Rattle.extra_report.specs.ExtraPieces.{extra_pieces};
 ghost use Rattle.extra_report.specs.FoundExtra.{extra_of};
+ghost use Rattle.extra_report.specs.FoundExtraAmps.{extra_amps_of};
 
+use crate::amps_found::FoundExtraAmps;
 use crate::report::ExtraReport;
 use cyclo24::K24;
 use extra_modes::{law_of_amounts, law_of_extra_spaces};
@@ -40,4 +43,9 @@ pub fn law_of_extra_amps_found()
 /// The pieces of the report of modes, one behind the other, are the report.
 pub fn law_of_extra_pieces()
     ensures { (r : ExtraReport) → concat (extra_pieces r) ≡ extra_of r.found }
+{}
+
+/// The pieces of the report of amplitudes, one behind the other, are the report.
+pub fn law_of_extra_amps_pieces()
+    ensures { (f : FoundExtraAmps) → concat (extra_amps_pieces f) ≡ extra_amps_of f }
 {}

@@ -6,6 +6,7 @@
 #![tactic(auto)]
 
 mod amps_found;
+mod amps_report;
 mod found;
 mod gathered;
 mod head;
@@ -14,7 +15,9 @@ mod orbit_modes;
 mod report;
 mod rows;
 
-pub use amps_found::{FoundExtraAmps, extra_amps_found, extra_amps_report};
+pub use amps_found::{FoundExtraAmps, extra_amps_found};
 pub use found::{FoundExtra, extra_found};
-pub use laws::{law_of_extra_amps_found, law_of_extra_found, law_of_extra_pieces};
+pub use laws::{
+    law_of_extra_amps_found, law_of_extra_amps_pieces, law_of_extra_found, law_of_extra_pieces,
+};
 pub use report::ExtraReport;

@@ -11,9 +11,9 @@ flat_map_more f xs i d l =
     ap (λ k. flat_map f (take k xs)) next ∙ ap (flat_map f) (take-suc xs i d l) ∙ flat_map-append f (take i xs) (get_or xs i d ∷ [])
     ∙ ap (λ t. flat_map f (take i xs) ++ t) (append-nil (f (get_or xs i d)))
 
--- two lines and what follows them
-two-lines : (a b t : List ℕ) → line a (line b []) ++ t ≡ line a (line b t)
-two-lines a b t = append_assoc a (10 ∷ (b ++ (10 ∷ []))) t ∙ ap (λ u. a ++ (10 ∷ u)) (append_assoc b (10 ∷ []) t)
+-- two lines, what stands behind them, and what follows
+pub two-lines : (a b x t : List ℕ) → line a (line b x) ++ t ≡ line a (line b (x ++ t))
+two-lines a b x t = append_assoc a (10 ∷ (b ++ (10 ∷ x))) t ∙ ap (λ u. a ++ (10 ∷ u)) (append_assoc b (10 ∷ x) t)
 
-pub lines-joined : (a b l s r : List ℕ) → ((line a (line b []) ++ l) ++ s) ++ r ≡ line a (line b ((l ++ s) ++ r))
-lines-joined a b l s r = ap (λ t. t ++ r) (append_assoc (line a (line b [])) l s) ∙ append_assoc (line a (line b [])) (l ++ s) r ∙ two-lines a b ((l ++ s) ++ r)
+pub lines-joined : (a b l s : List ℕ) → (line a (line b []) ++ l) ++ s ≡ line a (line b (l ++ s))
+lines-joined a b l s = append_assoc (line a (line b [])) l s ∙ two-lines a b [] (l ++ s)

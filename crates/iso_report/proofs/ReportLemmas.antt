@@ -1,24 +1,45 @@
--- The lines of the irreps of a file, one more at a time.
-use Rattle.std.proofs.Common.{◌≡◌, sym, ap, ◌∙◌, ℕ, zero, suc, ◌+◌, ◌<◌, List, [], ◌∷◌, ◌++◌, length, map, take, get_or, arith, append_assoc}
-use Rattle.std.proofs.lemmas.List.{append-nil}
+-- The pieces of the report of `check`.
+use Rattle.std.proofs.Common.{◌≡◌, refl, ap, ◌∙◌, ℕ, zero, suc, ◌<◌, List, [], ◌∷◌, ◌++◌, length, map, get_or, flat_map, arith, Some, slice_get}
+use Rattle.std.specs.List.{concat}
 use Rattle.iso_text.specs.declared.sections.IrrepText.{IrrepText}
 use Rattle.space_ops.specs.Group.{Parent}
+use Rattle.space_ops.specs.Lattice.{centrings_of}
+use Rattle.super_group.specs.Quotient.{order_of}
+use Rattle.report_steps.specs.Held.{facts_in}
 use Rattle.report_steps.specs.IrrepReport.{Facts, irrep_text, irreps_text}
 use Rattle.report_steps.specs.IrrepSteps.{Each}
+use Rattle.report_steps.specs.OpLines.{listed_line}
+use Rattle.iso_report.specs.Check.{first_line, lattice_line, supercell_line, check_head, check_pieces, check_text, irrep_pieces}
+use Rattle.iso_report.specs.declared.check.CheckReport.{CheckReport}
+use Rattle.iso_report.proofs.CheckLemmas.{two-lines}
 
-irreps-push : {B : Type 0} (p : Parent) (g : B → Facts) (R : IrrepText → B → Type 0) (xs : List IrrepText) (ys : List B) (i : ℕ) (x : IrrepText) (y : B)
-    → i < length xs → Each R xs ys
-    → irreps_text p (take (suc i) xs) (map g (take (suc i) ys)) ≡ irreps_text p (take i xs) (map g (take i ys)) ++ irrep_text p (get_or xs i x) (g (get_or ys i y))
-irreps-push p g R [] ys i x y l h = absurd (omega arith)
-irreps-push p g R (a ∷ xs) [] i x y l h = absurd h
-irreps-push p g R (a ∷ xs) (b ∷ ys) zero x y l h = append-nil (irrep_text p a (g b))
-irreps-push p g R (a ∷ xs) (b ∷ ys) (suc i) x y l h =
-    ap (λ t. irrep_text p a (g b) ++ t) (irreps-push p g R xs ys i x y (omega arith) h.1)
-    ∙ sym (append_assoc (irrep_text p a (g b)) (irreps_text p (take i xs) (map g (take i ys))) (irrep_text p (get_or xs i x) (g (get_or ys i y))))
+-- irrep i
+pub piece-at : {B : Type 0} (p : Parent) (g : B → Facts) (R : IrrepText → B → Type 0) (xs : List IrrepText) (ys : List B) (i : ℕ) (x : IrrepText) (y : B)
+    → i < length ys → Each R xs ys → slice_get (irrep_pieces p xs (map g ys)) i ≡ Some (irrep_text p (get_or xs i x) (g (get_or ys i y)))
+piece-at p g R [] [] i x y l h = absurd (omega arith)
+piece-at p g R [] (b ∷ ys) i x y l h = absurd h
+piece-at p g R (a ∷ xs) [] i x y l h = absurd h
+piece-at p g R (a ∷ xs) (b ∷ ys) zero x y l h = refl
+piece-at p g R (a ∷ xs) (b ∷ ys) (suc i) x y l h = piece-at p g R xs ys i x y (omega arith) h.1
 
--- one irrep more
-pub irreps-more : {B : Type 0} (p : Parent) (g : B → Facts) (R : IrrepText → B → Type 0) (xs : List IrrepText) (ys : List B) (i : ℕ) (x : IrrepText) (y : B)
-    → i < length xs → Each R xs ys
-    → irreps_text p (take (i + 1) xs) (map g (take (i + 1) ys)) ≡ irreps_text p (take i xs) (map g (take i ys)) ++ irrep_text p (get_or xs i x) (g (get_or ys i y))
-irreps-more p g R xs ys i x y l h =
-    let n : i + 1 ≡ suc i = omega arith in ap (λ k. irreps_text p (take k xs) (map g (take k ys))) n ∙ irreps-push p g R xs ys i x y l h
+-- how many irreps there are
+pub pieces-count : {B : Type 0} (p : Parent) (g : B → Facts) (R : IrrepText → B → Type 0) (xs : List IrrepText) (ys : List B) → Each R xs ys → length (irrep_pieces p xs (map g ys)) ≡ length ys
+pieces-count p g R [] [] h = refl
+pieces-count p g R [] (b ∷ ys) h = absurd h
+pieces-count p g R (a ∷ xs) [] h = absurd h
+pieces-count p g R (a ∷ xs) (b ∷ ys) h = ap suc (pieces-count p g R xs ys h.1)
+
+irreps-joined : (p : Parent) (xs : List IrrepText) (fs : List Facts) → concat (irrep_pieces p xs fs) ≡ irreps_text p xs fs
+irreps-joined p [] [] = refl
+irreps-joined p [] (f ∷ fs) = refl
+irreps-joined p (x ∷ xs) [] = refl
+irreps-joined p (x ∷ xs) (f ∷ fs) = ap (λ t. irrep_text p x f ++ t) (irreps-joined p xs fs)
+
+-- the pieces, one behind the other
+pub check-joined : (r : CheckReport) → concat (check_pieces r) ≡ check_text r.file.divided (map facts_in r.file.irreps.items)
+check-joined r =
+    let d = r.file.divided in
+    let s = d.quotient in
+    let facts = map facts_in r.file.irreps.items in
+    ap (λ t. check_head d ++ t) (irreps-joined s.parent d.file.irreps facts)
+    ∙ two-lines (first_line d.file.format) (lattice_line s.parent.lattice (length (centrings_of s.parent.lattice)) (length s.parent.ops)) (flat_map listed_line s.parent.ops ++ supercell_line s.d (order_of s)) (irreps_text s.parent d.file.irreps facts)

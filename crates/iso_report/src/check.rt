@@ -1,15 +1,19 @@
-// The report of `check`.
-ghost use Rattle.std.specs.Prelude.{◌≡◌, ◌++◌, [], IfOk, OnOk, length, map, flat_map, codes};
+// The report of `check`, in pieces.
+ghost use Rattle.std.specs.Prelude.{◌≡◌, ◌++◌, ◌<◌, [], IfOk, OnOk, Some, length, map, flat_map, codes, slice_get};
+ghost use Rattle.std.specs.List.{concat};
 ghost use Rattle.space_ops.specs.Lattice.{centrings_of};
 ghost use Rattle.super_group.specs.Quotient.{order_of};
-ghost use Rattle.iso_report.specs.Check.{first_line, lattice_line, supercell_line, check_text};
+ghost use Rattle.iso_report.specs.Check.{first_line, lattice_line, supercell_line, check_text, irrep_pieces, check_pieces};
 ghost use Rattle.report_steps.specs.OpLines.{listed_line};
-ghost use Rattle.report_steps.specs.Held.{facts_in};
+ghost use Rattle.report_steps.specs.Held.{facts_in, IsInducedHeld};
 ghost use Rattle.report_steps.specs.HeldFiles.{AreInducedHeld};
+ghost use Rattle.report_steps.specs.IrrepSteps.{Each};
 ghost use Rattle.iso_text.specs.Lines.{line};
 
-use crate::irrep_report::irreps_text;
-use iso_text::{NoMemory, Text};
+use crate::irrep_report::irrep_text;
+use induce::Induced;
+use iso_text::{IrrepText, NoMemory, Text};
+use report_buffer::Report;
 use report_steps::{InducedFile, op_line};
 use space_ops::{Group, Lattice};
 use std::alloc::Global;
@@ -81,32 +85,75 @@ fn head_text(alloc: Global, format: u8, group: &Group) -> Result<Text, NoMemory>
     Ok(text)
 }
 
-// The whole report, by the lines of the irreps.
-fn report_of(
-    alloc: Global,
-    format: u8,
-    quotient: &Quotient,
-    irreps: &Text,
-) -> Result<Text, NoMemory>
+// The lines in front of the irreps.
+fn front_text(alloc: Global, format: u8, quotient: &Quotient) -> Result<Text, NoMemory>
     ensures { IfOk result (λ text. text ≡ line (first_line format) (line (lattice_line quotient.now.parent.lattice (length (centrings_of quotient.now.parent.lattice)) (length quotient.now.parent.ops))
-        (flat_map listed_line quotient.now.parent.ops ++ supercell_line quotient.now.d (order_of quotient.now) ++ irreps.now))) }
+        (flat_map listed_line quotient.now.parent.ops ++ supercell_line quotient.now.d (order_of quotient.now)))) }
 {
     let group = quotient.group();
     let mut text = head_text(alloc, format, group)?;
     push_listed(alloc, &mut text, group)?;
     text.push(supercell_text(alloc, quotient.d(), quotient.order())?.as_slice())?;
-    text.push(irreps.as_slice())?;
     Ok(text)
 }
 
-/// The report of `check`: the lattice, the operations, the multipliers of the supercell and the
-/// order of the quotient, and each irrep with its arms.
-pub fn check_report(alloc: Global, file: &InducedFile) -> Result<Text, NoMemory>
-    requires { AreInducedHeld file.now }
-    ensures { IfOk result (λ text. text ≡ check_text file.now.divided (map facts_in file.now.irreps.items)) }
+// The lines of irrep i of a list, with its arms.
+fn irrep_at(
+    alloc: Global,
+    quotient: &Quotient,
+    irreps: &[IrrepText],
+    all: &[Induced],
+    i: usize,
+) -> Result<Text, NoMemory>
+    requires held { Each (IsInducedHeld quotient.now) irreps.now all.now }
+    requires place { i < length all.now }
+    ensures { IfOk result (λ text. slice_get (irrep_pieces quotient.now.parent irreps.now (map facts_in all.now)) i ≡ Some text) }
 {
-    let irreps = irreps_text(alloc, file)?;
-    let quotient = file.divided.quotient();
-    let format = file.divided.document().format();
-    report_of(alloc, format, quotient, &irreps)
+    irrep_text(alloc, quotient, &irreps[i], &all[i])
 }
+
+// The lines of irrep i of a file, with its arms.
+fn irrep_piece(alloc: Global, file: &InducedFile, i: usize) -> Result<Text, NoMemory>
+    requires held { AreInducedHeld file.now }
+    requires place { i < length file.now.irreps.items }
+    ensures { IfOk result (λ text. slice_get (irrep_pieces file.now.divided.quotient.parent file.now.divided.file.irreps (map facts_in file.now.irreps.items)) i ≡ Some text) }
+{
+    let quotient = file.divided.quotient();
+    let irreps = file.divided.document().irreps();
+    irrep_at(alloc, quotient, irreps, &file.irreps, i)
+}
+
+/// What `check` reports of a file: the lattice, the operations, the multipliers of the supercell and the
+/// order of the quotient, and each irrep with its arms.
+#[derive(Drop)]
+pub struct CheckReport {
+    pub file: InducedFile,
+}
+
+/// The lines in front of the irreps, and each irrep with its arms. Condition: what the file holds is what
+/// its irreps induce. Errors: want of memory.
+impl Report for CheckReport {
+    ghost use Rattle.iso_report.specs.Check.{check_pieces};
+    ghost use Rattle.report_steps.specs.HeldFiles.{AreInducedHeld};
+
+    ghost fits = { λ r. AreInducedHeld r.file };
+
+    ghost pieces = { check_pieces };
+
+    fn count(&self) -> usize {
+        self.file.irreps.len() + 1
+    }
+
+    fn piece(&self, alloc: Global, number: usize) -> Result<Text, NoMemory> {
+        if number == 0 {
+            let format = self.file.divided.document().format();
+            return front_text(alloc, format, self.file.divided.quotient());
+        }
+        irrep_piece(alloc, &self.file, number - 1)
+    }
+}
+
+/// The pieces of the report of `check`, one behind the other, are the report.
+pub fn law_of_check_pieces()
+    ensures { (r : CheckReport) → concat (check_pieces r) ≡ check_text r.file.divided (map facts_in r.file.irreps.items) }
+{}

@@ -1,5 +1,5 @@
 // What `check` tells of the irreps.
-ghost use Rattle.std.specs.Prelude.{◌≡◌, ◌<◌, ◌++◌, IfOk, ℤ, codes, flat_map, length, map, slice_index, []};
+ghost use Rattle.std.specs.Prelude.{◌≡◌, ◌<◌, ◌++◌, IfOk, ℤ, codes, flat_map, length, slice_index, []};
 ghost use Rattle.iso_text.specs.Lines.{line};
 ghost use Rattle.iso_text.specs.Ranges.{IsBlock};
 ghost use Rattle.space_ops.specs.Matrix.{Vector};
@@ -8,15 +8,13 @@ ghost use Rattle.kstar.specs.Fraction.{part_of, IsLowestRow};
 ghost use Rattle.kstar.specs.Star.{IsStarOf};
 ghost use Rattle.report_steps.specs.Fractions.{frac_text, row_text};
 ghost use Rattle.report_steps.specs.Held.{facts_in, IsInducedHeld};
-ghost use Rattle.report_steps.specs.HeldFiles.{AreInducedHeld};
-ghost use Rattle.report_steps.specs.IrrepSteps.{Each};
 ghost use Rattle.report_steps.specs.Irreps.{row_of_irrep};
-ghost use Rattle.report_steps.specs.IrrepReport.{irrep_head, irrep_tail, arm_line, irrep_text, irreps_text, kind_text};
+ghost use Rattle.report_steps.specs.IrrepReport.{irrep_head, irrep_tail, arm_line, irrep_text, kind_text};
 
 use induce::{Induced, Kind};
 use iso_text::{Frac, IrrepText, NoMemory, Text};
 use kstar::{KVector, Star};
-use report_steps::{InducedFile, fraction_text};
+use report_steps::fraction_text;
 use space_ops::{Group, Op};
 use std::alloc::Global;
 use super_group::Quotient;
@@ -146,8 +144,8 @@ fn arms_text(alloc: Global, group: &Group, irrep: &IrrepText, star: &Star) -> Re
     Ok(text)
 }
 
-// The lines of an irrep.
-fn irrep_text(
+/// The lines of an irrep, with its arms.
+pub(crate) fn irrep_text(
     alloc: Global,
     quotient: &Quotient,
     irrep: &IrrepText,
@@ -160,32 +158,4 @@ fn irrep_text(
     text.push(irrep_tail(alloc, irrep.size, induced)?.as_slice())?;
     text.push(arms_text(alloc, quotient.group(), irrep, induced.star())?.as_slice())?;
     Ok(text)
-}
-
-// The lines of irreps, one after the other.
-fn each_text(
-    alloc: Global,
-    quotient: &Quotient,
-    irreps: &[IrrepText],
-    all: &[Induced],
-) -> Result<Text, NoMemory>
-    requires { Each (IsInducedHeld quotient.now) irreps.now all.now }
-    ensures { IfOk result (λ text. text ≡ irreps_text quotient.now.parent irreps.now (map facts_in all.now)) }
-{
-    let mut text = Text::new(alloc);
-    for (i, induced) in all.iter().enumerate() {
-        let added = irrep_text(alloc, quotient, &irreps[i], induced)?;
-        text.push(added.as_slice())?;
-    }
-    Ok(text)
-}
-
-/// The lines of the irreps of a file.
-pub fn irreps_text(alloc: Global, file: &InducedFile) -> Result<Text, NoMemory>
-    requires { AreInducedHeld file.now }
-    ensures { IfOk result (λ text. text ≡ irreps_text file.now.divided.quotient.parent file.now.divided.file.irreps (map facts_in file.now.irreps.items)) }
-{
-    let quotient = file.divided.quotient();
-    let irreps = file.divided.document().irreps();
-    each_text(alloc, quotient, irreps, &file.irreps)
 }
