@@ -1,5 +1,5 @@
 -- What is found for a generated file is one.
-use Rattle.std.proofs.Common.{◌≡◌, sym, ap, ◌∙◌, subst, ℕ, List, None}
+use Rattle.std.proofs.Common.{◌≡◌, sym, ap, ◌∙◌, subst, ℕ, None}
 use Rattle.super_group.specs.Quotient.{IsQuotient}
 use Rattle.list_report.specs.Choice.{RefusesChoice, IsChosen}
 use Rattle.list_report.specs.Closing.{RefusesSubspaces, AreWideSubspaces, AreFew, RefusesNone, AreWideClasses, IsListed}

@@ -1,7 +1,4 @@
 use Rattle.std.proofs.Common.{inr, sym}
-use Rattle.cyclo24.specs.ExactK24.{k24_laws}
-use Rattle.cyclo24.specs.K24.{exact24}
-use Rattle.class_list.specs.Seen.{directions_of}
 use Rattle.super_group.specs.Quotient.{order_of}
 use Rattle.report_steps.specs.Finding.{report}
 use Rattle.report_steps.specs.FindingLaws.{found-wide}

@@ -1,4 +1,4 @@
-use Rattle.std.proofs.Common.{◌∙◌, ◌+◌, ◌++◌, ℕ, List, length, sym, ap, arith, Some}
+use Rattle.std.proofs.Common.{◌∙◌, ◌+◌, ◌++◌, ℕ, List, sym, ap, arith, Some}
 use Rattle.report_steps.specs.EachLaws.{each-length}
 use Rattle.mode_report.specs.Held.{HasSizeOf, told_of}
 use Rattle.demo_report.specs.DemoReport.{orbit_line}

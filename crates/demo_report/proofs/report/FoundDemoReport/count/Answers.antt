@@ -1,4 +1,4 @@
-use Rattle.std.proofs.Common.{arith, length, suc, ◌≡◌}
+use Rattle.std.proofs.Common.{arith}
 use Rattle.report_buffer.specs.PieceLaws.{numbered-count}
 use Rattle.report_steps.specs.EachLaws.{each-length}
 use Rattle.mode_report.specs.Held.{HasSizeOf, told_in}
