@@ -1,6 +1,6 @@
 -- What the program holds of amounts and their amplitudes, as the definitions name it.
-use Rattle.std.proofs.Common.{◌≡◌, refl, sym, ap, ◌∙◌, subst, inl, inr, ℕ, ◌*◌, List, [], length, map, get_or, arith, Some, slice_get}
-use Rattle.std.proofs.lemmas.Option.{slice_get_within, get_or_from_slice_get}
+use Rattle.std.proofs.Common.{◌≡◌, sym, ◌∙◌, inl, inr, ℕ, ◌*◌, List, [], length, get_or, arith, Some, slice_get}
+use Rattle.std.proofs.lemmas.Option.{slice_get_within}
 use Rattle.std.proofs.lemmas.List.{length-map}
 use Rattle.cyclo24.specs.ExactK24.{Exact24}
 use Rattle.wyckoff.specs.Orbit.{OrbitView}
@@ -16,7 +16,7 @@ use Rattle.mode_report.specs.Held.{RefusesNothing}
 use Rattle.mode_report.specs.ModesReport.{each_of}
 use Rattle.amp_report.specs.AmpsHeldLaws as held
 use Rattle.amp_report.specs.Held.{moded_in, AreModesHeldBy, IsWideRowBy, IsWideSomeRowBy}
-use Rattle.extra_report.specs.ExtraAmpsFound.{naming_in, Gathered, AreSolvable, AreWideExtraAmps}
+use Rattle.extra_report.specs.ExtraAmpsFound.{naming_in, AreSolvable, AreWideExtraAmps}
 use Rattle.extra_report.specs.ExtraReport.{entries_of}
 use Rattle.extra_report.proofs.SpaceLemmas.{sized, labelled_at}
 

@@ -1,5 +1,5 @@
 -- What `occ-amps` and `axial-amps` find in a file is one.
-use Rattle.std.proofs.Common.{◌≡◌, refl, sym, ap, ◌∙◌, subst, ℕ, ◌<◌, List, [], length, map, get_or, ext_get_or, Some, slice_get, arith}
+use Rattle.std.proofs.Common.{◌≡◌, refl, sym, ap, ◌∙◌, subst, ℕ, List, [], map, ext_get_or, arith}
 use Rattle.std.proofs.lemmas.List.{length-map}
 use Rattle.std.proofs.lemmas.Option.{get_or_from_slice_get}
 use Rattle.cyclo24.specs.ExactK24.{Exact24}
@@ -24,7 +24,6 @@ use Rattle.mode_report.specs.ModesReport.{each_of}
 use Rattle.mode_report.specs.OneWeightLaws.{InduceOne, HaveOneSpace, HaveOneBasis}
 use Rattle.amp_report.specs.AmpListLaws.{there}
 use Rattle.amp_report.specs.AmpsFound.{Moded, IsBasisBy, HaveOrbitModesBy}
-use Rattle.amp_report.specs.AmpsReport.{OrbitAmplitudes}
 use Rattle.amp_report.specs.OneAmplitudesLaws.{HaveOneList, amplitudes-one}
 use Rattle.amp_report.specs.OneModesLaws.{AreOrbitsAlike, orbits-alike, moded-bases, modes-told}
 use Rattle.extra_report.specs.ExtraAmpsFound.{naming_in, RefusesLines, RefusesGathering, Gathered, HaveAmounts, AreWideExtraAmps, HaveExtraAmps, IsAmpsReported, AfterAmounts, AfterModes, AreExtraAmpsFound}

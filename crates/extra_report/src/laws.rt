@@ -8,9 +8,9 @@ ghost use Rattle.extra_modes.specs.declared.nature.Nature.{Nature};
 ghost use Rattle.extra_report.specs.ExtraFound.{AreExtraFound};
 ghost use Rattle.extra_report.specs.ExtraAmpsFound.{AreExtraAmpsFound};
 ghost use Rattle.extra_report.specs.ExtraAmpsPieces.{extra_amps_pieces};
-ghost use Rattle.extra_report.specs.FoundExtraAmps.{extra_amps_of};
 ghost use Rattle.extra_report.specs.ExtraPieces.{extra_pieces};
 ghost use Rattle.extra_report.specs.FoundExtra.{extra_of};
+ghost use Rattle.extra_report.specs.FoundExtraAmps.{extra_amps_of};
 
 use crate::amps_found::FoundExtraAmps;
 use crate::report::ExtraReport;
@@ -40,12 +40,12 @@ pub fn law_of_extra_amps_found()
     law_of_irreps();
 }
 
-/// The pieces of the report of amplitudes, one behind the other, are the report.
-pub fn law_of_extra_amps_pieces()
-    ensures { (f : FoundExtraAmps) → concat (extra_amps_pieces f) ≡ extra_amps_of f }
-{}
-
 /// The pieces of the report of modes, one behind the other, are the report.
 pub fn law_of_extra_pieces()
     ensures { (r : ExtraReport) → concat (extra_pieces r) ≡ extra_of r.found }
+{}
+
+/// The pieces of the report of amplitudes, one behind the other, are the report.
+pub fn law_of_extra_amps_pieces()
+    ensures { (f : FoundExtraAmps) → concat (extra_amps_pieces f) ≡ extra_amps_of f }
 {}

@@ -3,7 +3,6 @@ use Rattle.std.specs.List.{All}
 use Rattle.super_group.specs.Quotient.{SupercellGroup}
 use Rattle.induce.specs.InducedView.{InducedView, IsInducedOf}
 use Rattle.mode_project.specs.AtomSpace.{IsOrbit}
-use Rattle.mode_project.specs.ModesView.{ModesView}
 use Rattle.mode_project.specs.Weights.{exact_weights, weights_in}
 use Rattle.extra_modes.specs.ExtraSpace.{extra_space}
 use Rattle.report_steps.specs.FindingLaws.{found-wide as found-wide-by, found-next}

@@ -1,4 +1,4 @@
-use Rattle.std.proofs.Common.{sym, subst, length, List}
+use Rattle.std.proofs.Common.{sym, subst}
 use Rattle.super_group.specs.Quotient.{SupercellGroup}
 use Rattle.extra_modes.specs.Amounts.{AreOrbits}
 use Rattle.extra_report.proofs.gathered.gathered.Goals as goal

@@ -1,6 +1,5 @@
-use Rattle.std.proofs.Common.{◌∙◌, sym, ap}
+use Rattle.std.proofs.Common.{◌∙◌, sym}
 use Rattle.extra_modes.specs.ExtraSpace.{extra_space}
-use Rattle.report_steps.specs.Finding.{report}
 use Rattle.report_steps.specs.StepLaws.{After-single-at}
 use Rattle.mode_report.specs.Atoms.{RefusesAtoms}
 use Rattle.mode_report.specs.ModesFound.{AreWideAllBy, AreToldBy}

@@ -1,4 +1,4 @@
-use Rattle.std.proofs.Common.{arith, length, suc, ◌≡◌}
+use Rattle.std.proofs.Common.{arith}
 use Rattle.report_buffer.specs.PieceLaws.{numbered-count}
 use Rattle.report_steps.specs.EachLaws.{each-length}
 use Rattle.amp_report.specs.AmpsHeldLaws.{told-length}

@@ -1,4 +1,4 @@
-use Rattle.std.proofs.Common.{arith, length, suc, ◌≡◌, ◌<◌, Some}
+use Rattle.std.proofs.Common.{arith}
 use Rattle.std.proofs.lemmas.Result.{IfOk-weaker}
 use Rattle.report_buffer.specs.PieceLaws.{behind-first, numbered-count}
 use Rattle.report_steps.specs.EachLaws.{each-length}
