@@ -1,5 +1,5 @@
 -- The pieces of the report of `check`.
-use Rattle.std.proofs.Common.{◌≡◌, refl, ap, ◌∙◌, ℕ, zero, suc, ◌<◌, List, [], ◌∷◌, ◌++◌, length, map, get_or, flat_map, arith, Some, slice_get}
+use Rattle.std.proofs.Common.{◌≡◌, refl, sym, ap, ◌∙◌, ℕ, zero, suc, ◌<◌, List, [], ◌∷◌, ◌++◌, length, map, get_or, flat_map, arith, Some, slice_get}
 use Rattle.std.specs.List.{concat}
 use Rattle.iso_text.specs.declared.sections.IrrepText.{IrrepText}
 use Rattle.space_ops.specs.Group.{Parent}
@@ -21,6 +21,14 @@ piece-at p g R [] (b ∷ ys) i x y l h = absurd h
 piece-at p g R (a ∷ xs) [] i x y l h = absurd h
 piece-at p g R (a ∷ xs) (b ∷ ys) zero x y l h = refl
 piece-at p g R (a ∷ xs) (b ∷ ys) (suc i) x y l h = piece-at p g R xs ys i x y (omega arith) h.1
+
+-- a text that is irrep i
+pub piece-is : {B : Type 0} (p : Parent) (g : B → Facts) (R : IrrepText → B → Type 0) (xs : List IrrepText) (ys : List B) (i : ℕ) (x : IrrepText) (y : B) (text : List ℕ)
+    → i < length ys → Each R xs ys → x ≡ get_or xs i x → y ≡ get_or ys i y → text ≡ irrep_text p x (g y) → slice_get (irrep_pieces p xs (map g ys)) i ≡ Some text
+piece-is p g R xs ys i x y text l h a b e =
+    let same : irrep_text p x (g y) ≡ irrep_text p (get_or xs i x) (g (get_or ys i y)) = λ j. irrep_text p (a j) (g (b j)) in
+    let here : text ≡ irrep_text p (get_or xs i x) (g (get_or ys i y)) = e ∙ same in
+    piece-at p g R xs ys i x y l h ∙ ap (λ t. Some t) (sym here)
 
 -- how many irreps there are
 pub pieces-count : {B : Type 0} (p : Parent) (g : B → Facts) (R : IrrepText → B → Type 0) (xs : List IrrepText) (ys : List B) → Each R xs ys → length (irrep_pieces p xs (map g ys)) ≡ length ys

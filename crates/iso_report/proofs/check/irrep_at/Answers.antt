@@ -1,11 +1,10 @@
-use Rattle.std.proofs.Common.{◌≡◌, ◌∙◌, ◌<◌, length, get_or, map, sym, ap, subst, arith, Some}
+use Rattle.std.proofs.Common.{◌<◌, length, get_or, sym, subst, arith}
 use Rattle.std.proofs.lemmas.Result.{IfOk-weaker}
 use Rattle.induce.specs.InducedView.{InducedView}
 use Rattle.iso_text.specs.declared.sections.IrrepText.{IrrepText}
 use Rattle.report_steps.specs.Held.{facts_in, IsInducedHeld}
-use Rattle.report_steps.specs.IrrepReport.{irrep_text}
 use Rattle.report_steps.specs.EachLaws.{each-length, each-at}
-use Rattle.iso_report.proofs.ReportLemmas.{piece-at}
+use Rattle.iso_report.proofs.ReportLemmas.{piece-is}
 use Rattle.iso_report.proofs.check.irrep_at.Goals as goal
 
 pub bounds-irreps-i : goal.bounds-irreps-i
@@ -30,11 +29,8 @@ irrep_text-requires c =
 pub returns : goal.returns
 returns c =
     let q = c.args.quotient.now in
-    let p = q.parent in
     let irreps = c.args.irreps.now in
     let all = c.args.all.now in
-    let i = c.args.i in
     let x = c.index-irreps-i.result in
     let y = c.index-all-i.result in
-    let same : irrep_text p x (facts_in y) ≡ irrep_text p (get_or irreps i x) (facts_in (get_or all i y)) = λ j. irrep_text p (c.index-irreps-i.is j) (facts_in (c.index-all-i.is j)) in
-    IfOk-weaker c.irrep_text.result _ _ (λ text h. piece-at p facts_in (IsInducedHeld q) irreps all i x y c.requires.place c.requires.held ∙ ap (λ t. Some t) (sym (h ∙ same))) c.irrep_text.ensures
+    IfOk-weaker c.irrep_text.result _ _ (λ text h. piece-is q.parent facts_in (IsInducedHeld q) irreps all c.args.i x y text c.requires.place c.requires.held c.index-irreps-i.is c.index-all-i.is h) c.irrep_text.ensures
