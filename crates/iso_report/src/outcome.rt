@@ -204,8 +204,13 @@ fn after_text<O: Sink>(
 }
 
 // What is found in the bytes of a file.
-fn run_over<O: Sink>(alloc: Global, job: &Job, bytes: &[u8], watchers: &mut [Box<dyn Watch>],
-    out: &mut O) -> Result<(), RunError>
+fn run_over<O: Sink>(
+    alloc: Global,
+    job: &Job,
+    bytes: &[u8],
+    watchers: &mut [Box<dyn Watch>],
+    out: &mut O,
+) -> Result<(), RunError>
     requires few { length bytes.now ≤ MAX_BYTES }
     ensures answer { Ends (IsFoundIn (IsFound job.now (map (λ w. watcher w) watchers.old) (map (λ w. watcher w) watchers.new)) bytes.now) (left (change (O.written out.old) (O.written out.new) (O.faults out.old) (O.faults out.new)) (map (λ w. watcher w) watchers.old) (map (λ w. watcher w) watchers.new)) result }
     ensures untouched { (r : Refusal) → IsErrOf result (RunError.Refused r) → out.new ≡ out.old }
@@ -219,8 +224,13 @@ fn run_over<O: Sink>(alloc: Global, job: &Job, bytes: &[u8], watchers: &mut [Box
 }
 
 // What is found in the generated file of a number.
-fn run_generated<O: Sink>(alloc: Global, job: &Job, number: u8, watchers: &mut [Box<dyn Watch>],
-    out: &mut O) -> Result<(), RunError>
+fn run_generated<O: Sink>(
+    alloc: Global,
+    job: &Job,
+    number: u8,
+    watchers: &mut [Box<dyn Watch>],
+    out: &mut O,
+) -> Result<(), RunError>
     requires number { number < 64 }
     ensures answer { Ends (λ f. (bytes : List ℕ) × IsDemoFile number bytes × IsFoundIn (IsFound job.now (map (λ w. watcher w) watchers.old) (map (λ w. watcher w) watchers.new)) bytes f) (left (change (O.written out.old) (O.written out.new) (O.faults out.old) (O.faults out.new)) (map (λ w. watcher w) watchers.old) (map (λ w. watcher w) watchers.new)) result }
     ensures untouched { (r : Refusal) → IsErrOf result (RunError.Refused r) → out.new ≡ out.old }
