@@ -22,7 +22,7 @@ returns-then-number-eq0 c =
     let r = c.args.self.now in
     let zero : c.args.number ≡ 0 = omega (arith, c.if-number-eq0.true) in
     let front : ℕ → SupercellGroup → List ℕ = λ n q.
-        line (first_line n) (line (lattice_line q.parent.lattice (length (centrings_of q.parent.lattice)) (length q.parent.ops)) (flat_map listed_line q.parent.ops ++ supercell_line q.d (order_of q))) in
+    line (first_line n) (line (lattice_line q.parent.lattice (length (centrings_of q.parent.lattice)) (length q.parent.ops)) (flat_map listed_line q.parent.ops ++ supercell_line q.d (order_of q))) in
     let format = c.format-format.ensures ∙ ap (λ (f : File). f.format) c.document.ensures in
     let same : front c.format-format.result c.quotient.result.now ≡ check_head r.file.divided = λ j. front (format j) (c.quotient.ensures j) in
     IfOk-weaker c.front_text.result _ _ (λ text e. ap (slice_get (check_pieces r)) zero ∙ ap (λ t. Some t) (sym (e ∙ same))) c.front_text.ensures
