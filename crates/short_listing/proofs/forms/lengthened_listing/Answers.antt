@@ -6,6 +6,7 @@ loop-i-preserved g c =
     let new = c.push.new.self in
     let old = c.loop-i.copy in
     let made = c.in_ok-direction in
-    let all = c.args.listing.now in
-    (directions_next g.S.Short.exact new old made.direction all c.loop-i.i c.get.result.now c.in_ok-push.ensures c.get.ensures made.ensures.direction c.loop-i.invariant.0,
-    widths_next new old made.direction all c.loop-i.i c.get.result.now c.in_ok-push.ensures c.get.ensures made.ensures.form c.loop-i.invariant.1)
+    let all = c.args.listing.now in (
+      directions_next g.S.Short.exact new old made.direction all c.loop-i.i c.get.result.now c.in_ok-push.ensures c.get.ensures made.ensures.direction c.loop-i.invariant.0,
+      widths_next new old made.direction all c.loop-i.i c.get.result.now c.in_ok-push.ensures c.get.ensures made.ensures.form c.loop-i.invariant.1,
+    )

@@ -1,7 +1,6 @@
 use Rattle.std.proofs.Common.{◌≡◌, Result, Err, ap, subst, map}
 use Rattle.cyclo24.specs.ExactK24.{k24, k24_laws}
 use Rattle.cyclo24.specs.K24.{exact24}
-use Rattle.lin_alg.specs.Action.{Action}
 use Rattle.fix_lattice.specs.Lattice.{AreMoreFixes}
 use Rattle.fix_lattice.specs.Subspaces.{AreWholeForms}
 use Rattle.class_list.specs.Directions.{IsListing}
