@@ -40,6 +40,7 @@ fn listing_in<F: Field, G: Acts<F>, L: Ledger>(
     ensures wide_subspace { (result ≡ Err listing_error.WideSubspace) → G.wide acts.now ⊎ IsWideFixes F.field (G.action acts.now) }
     ensures wide_stabiliser { (result ≡ Err listing_error.WideStabiliser) → G.wide acts.now ⊎ IsWideFixes F.field (G.action acts.now) }
     ensures wide_image { (result ≡ Err listing_error.WideImage) → G.wide acts.now ⊎ IsWideImages F.field (G.action acts.now) }
+    ensures few_image { (result ≡ Err listing_error.WideImage) → AreMoreFixes F.field.laws (G.action acts.now) limit → ⊥ }
 {
     let spaces = match close(alloc, acts, limit, steps) {
         Ok(spaces) => spaces,
@@ -158,6 +159,7 @@ pub fn listing_of<G: Acts<K24>, L: Ledger>(
     ensures wide_subspace { (result ≡ Err listing_error.WideSubspace) → G.wide acts.now ⊎ IsWideFixes k24 (G.action acts.now) }
     ensures wide_stabiliser { (result ≡ Err listing_error.WideStabiliser) → G.wide acts.now ⊎ IsWideFixes k24 (G.action acts.now) }
     ensures wide_image { (result ≡ Err listing_error.WideImage) → G.wide acts.now ⊎ IsWideImages k24 (G.action acts.now) }
+    ensures few_image { (result ≡ Err listing_error.WideImage) → AreMoreFixes k24_laws (G.action acts.now) limit → ⊥ }
 {
     match first_run(alloc, acts, limit, order, steps) {
         Ok(listing) => Ok(listing),
