@@ -24,14 +24,14 @@ use Rattle.real_form.specs.RealForm.{quotient_of, action_of}
 use Rattle.couple.specs.Coupled.{IsOneGroup, coupled}
 use Rattle.couple.specs.declared.errors.CoupleError.{CoupleError}
 use Rattle.couple.specs.declared.errors.CoupleError.TheVariants as couple_error
-use Rattle.report_steps.specs.FindingLaws.{found-refused, found-next}
-use Rattle.report_steps.specs.Steps.{OrWide, never}
+use Rattle.report_steps.specs.FindingLaws.{found-refused, found-wide, found-next}
+use Rattle.report_steps.specs.Steps.{never}
 use Rattle.report_steps.specs.declared.refusal.Refusal.{Refusal}
 use Rattle.report_steps.specs.declared.refusal.Refusal.TheVariants as refusal
 use Rattle.report_steps.specs.declared.step.Step.{Step}
 use Rattle.report_steps.specs.declared.step.Step.TheVariants as step
 use Rattle.list_report.specs.Closing.{limit_of, order_by}
-use Rattle.couple_report.specs.CoupleFound.{CoupledForm, coupled_of, RefusesCoupling, AreCoupled, RefusesCoupledSubspaces, AreWideCoupledSubspaces, AreFewCoupled, RefusesNone, AreWideCoupledClasses, CoupledListing, AfterCoupledClosing, AfterCoupling, AfterForms, AfterPair}
+use Rattle.couple_report.specs.CoupleFound.{CoupledForm, coupled_of, RefusesCoupling, AreCoupled, RefusesCoupledSubspaces, AreWideCoupledSubspaces, AreFewCoupled, RefusesNone, AreWideCoupledClasses, RefusesCoupledListing, CoupledListing, IsCoupledListing, IsCoupleReported, AfterCoupledClosing, AfterCoupling, AfterForms, AfterPair}
 use Rattle.couple_report.specs.FoundCouple.{couple_of, IsCoupleHeld, FindsCouple, listed_by}
 use Rattle.couple_report.specs.HeldPairs.{IsPairHeld, formed_pair, formed_in, AreTogether, coupled_in, IsTogether, AreCoupledDirections}
 use Rattle.couple_report.specs.Pairs.{ChosenPair, FormedPair, RefusesForms, AreWideForms, AreFormed}
@@ -58,17 +58,14 @@ module _ (t : Together) (act : Action) where
   pub few-fixes : (limit : ℕ) → limit ≡ limit_of t.format → (AreMoreFixes k24_laws act limit → ⊥) → AreFewCoupled c c
   few-fixes limit e h = (subst (λ n. AreMoreFixes k24_laws act n → ⊥) e h, refl)
 
-  pub many-fixes : (limit : ℕ) → limit ≡ limit_of t.format → AreMoreFixes k24_laws act limit → OrWide RefusesCoupledSubspaces AreWideCoupledSubspaces c (refusal.CoupledSubspaces t.name t.other limit)
-  many-fixes limit e h = inl (subst (λ n. AreMoreFixes k24_laws act n) e h, ap (refusal.CoupledSubspaces t.name t.other) e)
+  pub many-fixes : (limit : ℕ) → limit ≡ limit_of t.format → AreMoreFixes k24_laws act limit → RefusesCoupledListing c (refusal.CoupledSubspaces t.name t.other limit)
+  many-fixes limit e h = inl (inl (subst (λ n. AreMoreFixes k24_laws act n) e h, ap (refusal.CoupledSubspaces t.name t.other) e))
 
-  pub wide-fixes : {A : Type 0} → (A → ⊥) → A ⊎ IsWideFixes k24 act → OrWide RefusesCoupledSubspaces AreWideCoupledSubspaces c (refusal.Wide 3)
-  wide-fixes n w = inr (3, (refl, other n w), refl)
+  pub wide-fixes : {A : Type 0} → (A → ⊥) → A ⊎ IsWideFixes k24 act → RefusesCoupledListing c (refusal.Wide 3)
+  wide-fixes n w = inl (inr (3, (refl, other n w), refl))
 
-  pub wide-stabilisers : {A : Type 0} → (A → ⊥) → A ⊎ IsWideFixes k24 act → OrWide RefusesNone AreWideCoupledClasses c (refusal.Wide 3)
-  wide-stabilisers n w = inr (3, inl (refl, other n w), refl)
-
-  pub wide-images : {A : Type 0} → (A → ⊥) → A ⊎ IsWideImages k24 act → OrWide RefusesNone AreWideCoupledClasses c (refusal.Wide 4)
-  wide-images n w = inr (4, inr (refl, other n w), refl)
+  pub wide-images : {A : Type 0} (limit : ℕ) → limit ≡ limit_of t.format → (A → ⊥) → (AreMoreFixes k24_laws act limit → ⊥) → A ⊎ IsWideImages k24 act → RefusesCoupledListing c (refusal.Wide 4)
+  wide-images limit e n h w = inr (few-fixes limit e h, inr (4, inr (refl, other n w), refl))
 
   pub are-directions : (o : Order) → o ≡ order_by t.format → (l : List (DirectionView K24)) → IsListing k24_laws k24.cmp act o (directions_of k24_laws exact24 l)
       → AreWholeForms k24_laws exact24 act.dim (map (λ d. d.equations) l) → AreCoupledDirections c l
@@ -120,11 +117,16 @@ module _ (t : Together) (act : Action) (law : IsAction k24_laws act) (h : IsToge
   abbrev told : CoupledListing
   told = record { form = coupled_in t act; directions = directions_of k24_laws exact24 l }
 
-  -- a listing behind the fixed subspaces
-  pub listed-found : (c : FoundCouple) → c ≡ listed_by t l → FindsCouple (AfterCoupledClosing t.after t.count (coupled_in t act)) (step.Passed c)
-  listed-found c e =
-      let P : FoundCouple → Type 0 = λ x. FindsCouple (AfterCoupledClosing t.after t.count (coupled_in t act)) (step.Passed x) in
-      subst P (sym e) (inr (inr (told, (d.listing, refl), refl)), is-held)
+  -- a listing behind both real forms as one
+  pub listed-found : AreFewCoupled (coupled_in t act) (coupled_in t act) → (c : FoundCouple) → c ≡ listed_by t l → FindsCouple (AfterCoupling t.after t.count (coupled_in t act)) (step.Passed c)
+  listed-found few c e =
+      let P : FoundCouple → Type 0 = λ x. FindsCouple (AfterCoupling t.after t.count (coupled_in t act)) (step.Passed x) in
+      subst P (sym e) (inr (inr (coupled_in t act, few, inr (inr (told, (d.listing, refl), refl)))), is-held)
+
+-- there is no listing
+pub unlisted : (after : ℕ) (count : Option ℕ) (c : CoupledForm) (r : Refusal) → RefusesCoupledListing c r → FindsCouple (AfterCoupling after count c) (step.Refused r)
+unlisted after count c r (inl h) = found-wide couple_of IsCoupleHeld RefusesCoupledSubspaces AreWideCoupledSubspaces AreFewCoupled (AfterCoupledClosing after count) c r h
+unlisted after count c r (inr (few, h)) = (inr (inr (c, few, (found-wide couple_of IsCoupleHeld RefusesNone AreWideCoupledClasses IsCoupledListing (IsCoupleReported after count) c r h).0)), tt)
 
 -- ---- both real forms as one
 

@@ -5,6 +5,7 @@
 -- RefusesCoupling x r, AreCoupled x c: the dimensions together pass 24; else both as one
 -- RefusesCoupledSubspaces c r, AreWideCoupledSubspaces c k, AreFewCoupled c e: there are more fixed subspaces than the limit
 -- CoupledListing, RefusesNone, AreWideCoupledClasses c k, IsCoupledListing c l: the listing of one direction for each class
+-- RefusesCoupledListing c r: there is none
 -- IsCoupleReported after count l f: the report of a page
 -- IsCoupleFound wanted other after count d f: what is found
 use Rattle.std.specs.Prelude.{◌≡◌, ◌⊎◌, ℕ, ◌+◌, ◌<◌, ◌≤◌, List, Option}
@@ -18,7 +19,7 @@ use Rattle.class_list.specs.Wide.{IsWideImages}
 use Rattle.couple.specs.Coupled.{coupled}
 use Rattle.report_steps.specs.Contexts.{Divided}
 use Rattle.report_steps.specs.Finding.{Finding, report}
-use Rattle.report_steps.specs.Steps.{After, never}
+use Rattle.report_steps.specs.Steps.{After, OrWide, never}
 use Rattle.report_steps.specs.declared.refusal.Refusal.{Refusal}
 use Rattle.report_steps.specs.declared.refusal.Refusal.TheVariants as refusal
 use Rattle.list_report.specs.Closing.{limit_of, order_by}
@@ -70,6 +71,10 @@ RefusesNone c r = ⊥
 -- stabilisers, or images of fixed subspaces
 abbrev pub AreWideCoupledClasses : CoupledForm → ℕ → Type 0
 AreWideCoupledClasses c k = ((k ≡ 3) × IsWideFixes k24 c.act) ⊎ ((k ≡ 4) × IsWideImages k24 c.act)
+
+-- there are too many fixed subspaces or they are wide, or few of them, and what is listed is wide
+abbrev pub RefusesCoupledListing : CoupledForm → Refusal → Type 0
+RefusesCoupledListing c r = OrWide RefusesCoupledSubspaces AreWideCoupledSubspaces c r ⊎ (AreFewCoupled c c × OrWide RefusesNone AreWideCoupledClasses c r)
 
 pub record CoupledListing : Type 0 where
   pub form : CoupledForm

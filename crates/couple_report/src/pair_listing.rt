@@ -4,18 +4,16 @@ ghost use Rattle.couple.specs.declared.errors.CoupleError.TheVariants as couple_
 ghost use Rattle.report_steps.specs.declared.refusal.Refusal.TheVariants as refusal;
 ghost use Rattle.iso_text.specs.declared.sections.IrrepText.{IrrepText as Irrep};
 ghost use Rattle.report_steps.specs.HeldFiles.{AreInducedHeld};
-ghost use Rattle.list_report.specs.HeldListings.{AreClosed};
-ghost use Rattle.couple_report.specs.CoupleFound.{AfterCoupledClosing, AfterCoupling, AfterForms, AfterPair, IsCoupleFound};
+ghost use Rattle.couple_report.specs.CoupleFound.{AfterCoupling, AfterForms, AfterPair, IsCoupleFound};
 ghost use Rattle.couple_report.specs.FoundCouple.{FindsCouple};
 ghost use Rattle.couple_report.specs.HeldPairs.{chosen_pair, formed_in, coupled_in, AreTogether, IsTogether};
 
-use crate::closing::{closed, directions};
+use crate::closing::coupled_directions;
 use crate::forms::{FormPair, forms_at};
 use crate::places::places_of;
 use crate::together::{FoundCouple, Together, listed, together_of};
 use couple::{CoupleError, Coupled};
 use cyclo24::K24;
-use fix_lattice::Subspaces;
 use iso_text::{Name, NoMemory};
 use lin_alg::{Acts, Steps};
 use real_form::RealForm;
@@ -23,25 +21,6 @@ use report_steps::{InducedFile, Refusal, Step};
 use std::alloc::Global;
 use std::marker::Brand;
 use std::sync::ledger::{Blank, Ledger};
-
-// What is found behind the fixed subspaces.
-fn after_closing<G: Acts<K24>, L: Ledger>(
-    alloc: Global,
-    together: Together,
-    acts: &G,
-    spaces: Subspaces<K24>,
-    steps: &mut Steps<L>,
-) -> Result<Step<FoundCouple>, NoMemory>
-    requires narrow { G.wide acts.now → ⊥ }
-    requires held { IsTogether together (G.action acts.now) }
-    requires closed { AreClosed (G.action acts.now) spaces }
-    ensures { IfOk result (FindsCouple (AfterCoupledClosing together.after together.count (coupled_in together (G.action acts.now)))) }
-{
-    match directions(alloc, &together, acts, spaces, steps)? {
-        Step::Passed(listing) => Ok(Step::Passed(listed(together, listing))),
-        Step::Refused(refusal) => Ok(Step::Refused(refusal)),
-    }
-}
 
 // What is found behind both real forms as one, with a counter of insertions over a blank ledger.
 fn after_coupling<G: Acts<K24>, L: Ledger>(
@@ -58,8 +37,8 @@ fn after_coupling<G: Acts<K24>, L: Ledger>(
     ensures { IfOk result (FindsCouple (AfterCoupling together.after together.count (coupled_in together (G.action acts.now)))) }
 {
     let mut steps = Steps::<L>::new(blank);
-    match closed(alloc, &together, acts, &mut steps)? {
-        Step::Passed(spaces) => after_closing(alloc, together, acts, spaces, &mut steps),
+    match coupled_directions(alloc, &together, acts, &mut steps)? {
+        Step::Passed(listing) => Ok(Step::Passed(listed(together, listing))),
         Step::Refused(refusal) => Ok(Step::Refused(refusal)),
     }
 }

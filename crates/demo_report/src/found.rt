@@ -5,20 +5,18 @@ ghost use Rattle.cyclo24.specs.K24.{exact24};
 ghost use Rattle.iso_text.specs.Ranges.{IsInRange};
 ghost use Rattle.iso_text.specs.declared.sections.IrrepText.{IrrepText as Irrep};
 ghost use Rattle.class_list.specs.Seen.{directions_of};
-ghost use Rattle.real_form.specs.RealForm.{action_of};
 ghost use Rattle.list_report.specs.Choice.{chosen_of};
 ghost use Rattle.list_report.specs.Contexts.{Listed};
-ghost use Rattle.list_report.specs.HeldListings.{formed_in, IsFormedHeld, AreClosed};
+ghost use Rattle.list_report.specs.HeldListings.{formed_in, IsFormedHeld};
 ghost use Rattle.report_steps.specs.HeldFiles.{AreInducedHeld};
-ghost use Rattle.demo_report.specs.DemoFound.{AfterClasses, AfterSubspaces, AfterForm, AfterChoice, IsDemoFound};
+ghost use Rattle.demo_report.specs.DemoFound.{AfterClasses, AfterForm, AfterChoice, IsDemoFound};
 ghost use Rattle.demo_report.specs.FoundDemo.{FindsDemo};
 
 use class_list::Listing;
 use cyclo24::K24;
-use fix_lattice::Subspaces;
 use iso_text::NoMemory;
 use lin_alg::{Acts, Steps};
-use list_report::{FormedIrrep, closed, directions, form_at, place_of};
+use list_report::{FormedIrrep, form_at, listed_directions, place_of};
 use mode_report::{FoundModes, formed_of, modes_found};
 use report_steps::{InducedFile, Refusal, Step};
 use std::alloc::Global;
@@ -60,26 +58,6 @@ fn after_classes(
     }
 }
 
-// What is found behind the fixed subspaces.
-fn after_closing<L: Ledger>(
-    alloc: Global,
-    file: InducedFile,
-    number: u8,
-    formed: FormedIrrep,
-    spaces: Subspaces<K24>,
-    steps: &mut Steps<L>,
-) -> Result<Step<FoundDemo>, NoMemory>
-    requires file { AreInducedHeld file }
-    requires ranges { IsInRange file.divided.file }
-    requires closed { AreClosed (action_of formed.form) spaces }
-    ensures { IfOk result (FindsDemo (AfterSubspaces number file.divided (formed_in formed))) }
-{
-    match directions(alloc, &formed, spaces, steps)? {
-        Step::Passed(listing) => after_classes(alloc, file, number, formed.form.dim(), listing),
-        Step::Refused(refusal) => Ok(Step::Refused(refusal)),
-    }
-}
-
 // What is found behind the real form, with a counter of insertions over a blank ledger.
 fn after_form<L: Ledger>(
     alloc: Global,
@@ -97,8 +75,8 @@ fn after_form<L: Ledger>(
     ensures { IfOk result (FindsDemo (AfterForm number file.divided (formed_in formed))) }
 {
     let mut steps = Steps::<L>::new(blank);
-    match closed(alloc, &formed, &mut steps)? {
-        Step::Passed(spaces) => after_closing(alloc, file, number, formed, spaces, &mut steps),
+    match listed_directions(alloc, &formed, &mut steps)? {
+        Step::Passed(listing) => after_classes(alloc, file, number, formed.form.dim(), listing),
         Step::Refused(refusal) => Ok(Step::Refused(refusal)),
     }
 }

@@ -12,9 +12,8 @@ use Rattle.class_list.specs.Seen.{DirectionView, directions_of}
 use Rattle.class_list.specs.Wide.{IsWideImages}
 use Rattle.super_group.specs.Quotient.{order_of}
 use Rattle.real_form.specs.RealForm.{quotient_of, action_of}
-use Rattle.list_report.specs.Closing.{limit_of, order_by, RefusesSubspaces, AreWideSubspaces, AreFew, RefusesNone, AreWideClasses}
+use Rattle.list_report.specs.Closing.{limit_of, order_by, AreFew, RefusesListing}
 use Rattle.list_report.specs.HeldListings.{formed_in, IsFormedHeld, AreDirections}
-use Rattle.report_steps.specs.Steps.{OrWide}
 use Rattle.list_report.specs.declared.listed.FormedIrrep.{FormedIrrep}
 use Rattle.report_steps.specs.declared.refusal.Refusal.TheVariants as refusal
 
@@ -34,17 +33,14 @@ module _ (x : FormedIrrep) where
   pub few-fixes : (limit : ℕ) → limit ≡ limit_of x.format → (AreMoreFixes k24_laws (action_of x.form) limit → ⊥) → AreFew (formed_in x) (formed_in x)
   few-fixes limit e h = (subst (λ n. AreMoreFixes k24_laws (action_of x.form) n → ⊥) e h, refl)
 
-  pub many-fixes : (limit : ℕ) → limit ≡ limit_of x.format → AreMoreFixes k24_laws (action_of x.form) limit → OrWide RefusesSubspaces AreWideSubspaces (formed_in x) (refusal.TooManySubspaces x.name limit)
-  many-fixes limit e h = inl (subst (λ n. AreMoreFixes k24_laws (action_of x.form) n) e h, ap (refusal.TooManySubspaces x.name) e)
+  pub many-fixes : (limit : ℕ) → limit ≡ limit_of x.format → AreMoreFixes k24_laws (action_of x.form) limit → RefusesListing (formed_in x) (refusal.TooManySubspaces x.name limit)
+  many-fixes limit e h = inl (inl (subst (λ n. AreMoreFixes k24_laws (action_of x.form) n) e h, ap (refusal.TooManySubspaces x.name) e))
 
-  pub wide-fixes : ⊥ ⊎ IsWideFixes k24 (action_of x.form) → OrWide RefusesSubspaces AreWideSubspaces (formed_in x) (refusal.Wide 3)
-  wide-fixes w = inr (3, (refl, other w), refl)
+  pub wide-fixes : ⊥ ⊎ IsWideFixes k24 (action_of x.form) → RefusesListing (formed_in x) (refusal.Wide 3)
+  wide-fixes w = inl (inr (3, (refl, other w), refl))
 
-  pub wide-stabilisers : ⊥ ⊎ IsWideFixes k24 (action_of x.form) → OrWide RefusesNone AreWideClasses (formed_in x) (refusal.Wide 3)
-  wide-stabilisers w = inr (3, inl (refl, other w), refl)
-
-  pub wide-images : ⊥ ⊎ IsWideImages k24 (action_of x.form) → OrWide RefusesNone AreWideClasses (formed_in x) (refusal.Wide 4)
-  wide-images w = inr (4, inr (refl, other w), refl)
+  pub wide-images : (limit : ℕ) → limit ≡ limit_of x.format → (AreMoreFixes k24_laws (action_of x.form) limit → ⊥) → ⊥ ⊎ IsWideImages k24 (action_of x.form) → RefusesListing (formed_in x) (refusal.Wide 4)
+  wide-images limit e h w = inr (few-fixes limit e h, inr (4, inr (refl, other w), refl))
 
   pub are-directions : (o : Order) → o ≡ order_by x.format → (l : List (DirectionView K24)) → IsListing k24_laws k24.cmp (action_of x.form) o (directions_of k24_laws exact24 l)
       → AreWholeForms k24_laws exact24 (action_of x.form).dim (map (λ d. d.equations) l) → AreDirections (formed_in x) l

@@ -26,22 +26,22 @@ use Rattle.list_report.proofs.CountLemmas.{rising-few, listing-few}
 use Rattle.class_list.specs.Directions.{IsDirection}
 use Rattle.class_list.specs.Seen.{DirectionView, direction_of, directions_of}
 use Rattle.real_form.specs.RealForm.{action_of, action_of-lawful}
-use Rattle.list_report.specs.Closing.{limit_of, order_by, IsListed}
+use Rattle.list_report.specs.Closing.{limit_of, order_by, AreFew, IsListed}
 use Rattle.report_steps.specs.Contexts.{Divided}
 use Rattle.list_report.specs.Contexts.{Formed, Listed}
 use Rattle.list_report.specs.FoundListing.{FindsListing}
 use Rattle.list_report.specs.HeldListings.{formed_by, formed_in, listed_in, IsPlaceOf, IsFormedHeld, IsListingHeld, AreDirections}
-use Rattle.list_report.specs.Listings.{AfterClosing, AfterChoice, IsListedThen}
+use Rattle.list_report.specs.Listings.{AfterForm, AfterChoice, IsListedThen}
 use Rattle.report_steps.specs.Finding.{Finding}
 use Rattle.report_steps.specs.declared.refusal.Refusal.{Refusal}
 use Rattle.list_report.specs.declared.listed.FormedIrrep.{FormedIrrep}
 use Rattle.list_report.specs.declared.listed.ListedIrrep.{ListedIrrep}
 use Rattle.report_steps.specs.declared.step.Step.TheVariants as step
 
--- a listing behind the fixed subspaces
-pub listed-found : (x : Formed) (after : ℕ) (count : Option ℕ) (r : ListedIrrep) → IsListed x (listed_in r) → IsListingHeld r → r.after ≡ after → r.count ≡ count
-    → FindsListing after count (λ next. AfterClosing next x) (step.Passed r)
-listed-found x after count r l held a n = (inr (inr (listed_in r, l, (refl, a, n))), held)
+-- a listing behind the real form
+pub listed-found : (x : Formed) (after : ℕ) (count : Option ℕ) (r : ListedIrrep) → AreFew x x → IsListed x (listed_in r) → IsListingHeld r → r.after ≡ after → r.count ≡ count
+    → FindsListing after count (λ next. AfterForm next x) (step.Passed r)
+listed-found x after count r few l held a n = (inr (inr (x, few, inr (inr (listed_in r, l, (refl, a, n))))), held)
 
 -- what is found behind a value that passes
 pub listing-next : {A B E : Type 0} (refuses : A → Refusal → Type 0) (wide : A → ℕ → Type 0) (passes : A → B → Type 0) (chain : (Listed → Finding → Type 0) → B → Finding → Type 0) (a : A) (b : B)

@@ -3,6 +3,7 @@
 -- limit_of format: how many fixed subspaces are allowed; order_by format: how directions are ordered
 -- RefusesSubspaces x r, AreWideSubspaces x k, AreFew x y: there are more than the limit
 -- RefusesNone, AreWideClasses x k, IsListed x l: the listing of one direction for each class
+-- RefusesListing x r: there is none
 use Rattle.std.specs.Prelude.{◌≡◌, ◌⊎◌, ℕ, nat_eq, if◌then◌else◌}
 use Rattle.cyclo24.specs.ExactK24.{k24, k24_laws}
 use Rattle.fix_lattice.specs.Lattice.{AreMoreFixes}
@@ -14,6 +15,7 @@ use Rattle.class_list.specs.Wide.{IsWideImages}
 use Rattle.list_report.specs.Contexts.{Formed, Listed}
 use Rattle.report_steps.specs.declared.refusal.Refusal.{Refusal}
 use Rattle.report_steps.specs.declared.refusal.Refusal.TheVariants as refusal
+use Rattle.report_steps.specs.Steps.{OrWide}
 
 -- 4096 in format 1, 16384 in format 2
 abbrev pub limit_of : ℕ → ℕ
@@ -40,6 +42,10 @@ RefusesNone x r = ⊥
 -- stabilisers, or images of fixed subspaces
 abbrev pub AreWideClasses : Formed → ℕ → Type 0
 AreWideClasses x k = ((k ≡ 3) × IsWideFixes k24 x.act) ⊎ ((k ≡ 4) × IsWideImages k24 x.act)
+
+-- there are too many fixed subspaces or they are wide, or few of them, and what is listed is wide
+abbrev pub RefusesListing : Formed → Refusal → Type 0
+RefusesListing x r = OrWide RefusesSubspaces AreWideSubspaces x r ⊎ (AreFew x x × OrWide RefusesNone AreWideClasses x r)
 
 -- the listing of one direction for each class of isotropy subgroups
 pub record IsListed (x : Formed) (l : Listed) : Type 0 where

@@ -2,7 +2,6 @@
 --
 -- IsPlaceOf wanted irreps k: the wanted irrep is at place k
 -- formed_by c form, formed_in x: a real form, as the definitions name it; IsFormedHeld x: it is one of a quotient
--- AreClosed act held: the fixed subspaces of an action
 -- AreDirections x l: the listing of a real form
 -- listed_in l: a listing, as the definitions name it
 -- IsListingHeld l: its directions can be reported, and fit into notices
@@ -11,9 +10,7 @@ use Rattle.cyclo24.specs.declared.k24.K24.{K24}
 use Rattle.cyclo24.specs.K24.{exact24}
 use Rattle.cyclo24.specs.ExactK24.{k24, k24_laws}
 use Rattle.iso_text.specs.declared.sections.IrrepText.{IrrepText}
-use Rattle.lin_alg.specs.Action.{Action}
-use Rattle.fix_lattice.specs.Lattice.{HoldsFixes, HasEachStabiliser, AreStabilisers}
-use Rattle.fix_lattice.specs.Subspaces.{SubspacesView, AreWholeForms, exact_forms}
+use Rattle.fix_lattice.specs.Subspaces.{AreWholeForms}
 use Rattle.class_list.specs.Seen.{DirectionView, directions_of}
 use Rattle.class_list.specs.Directions.{IsListing}
 use Rattle.real_form.specs.declared.form.RealForm.{RealForm}
@@ -41,13 +38,6 @@ formed_in x = record { format = x.format; quotient = x.quotient; name = x.name; 
 pub record IsFormedHeld (x : FormedIrrep) : Type 0 where
   pub quotient : quotient_of x.form ≡ x.quotient
   pub few : (action_of x.form).dim ≤ 24
-
--- the fixed subspaces of an action, each once, with the two sides of the theorem on stabilisers
-pub record AreClosed (act : Action) (held : SubspacesView K24) : Type 0 where
-  pub width : held.width ≡ act.dim
-  pub holds : HoldsFixes k24_laws act (exact_forms k24_laws exact24 held.forms)
-  pub vectors : HasEachStabiliser k24_laws act (exact_forms k24_laws exact24 held.forms)
-  pub spaces : AreStabilisers k24_laws act (exact_forms k24_laws exact24 held.forms)
 
 -- the listing of the directions of a real form, its equations whole forms
 pub record AreDirections (x : Formed) (l : List (DirectionView K24)) : Type 0 where

@@ -28,6 +28,8 @@ pub mod RealForms
 pub mod TwinLaws
 -- the fixed subspaces of a real form, and the directions of its classes
 pub mod Closing
+-- what is found where there is a listing of a real form, or none
+pub mod ListingLaws
 -- what `list` finds, step by step
 pub mod Listings
 -- what a real form tells of what was induced

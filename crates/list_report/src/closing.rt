@@ -1,17 +1,16 @@
-// The fixed subspaces of a real form, and the directions of their classes.
+// The directions of the classes of fixed subspaces of a real form.
 ghost use Rattle.std.specs.Prelude.{◌≡◌, ◌<◌, ◌≤◌, IfOk};
-ghost use Rattle.real_form.specs.RealForm.{action_of};
-ghost use Rattle.list_report.specs.Closing.{limit_of, order_by, RefusesSubspaces, AreWideSubspaces, AreFew, RefusesNone, AreWideClasses};
-ghost use Rattle.list_report.specs.HeldListings.{formed_in, IsFormedHeld, AreClosed, AreDirections};
-ghost use Rattle.report_steps.specs.Steps.{Answers, OrWide};
+ghost use Rattle.list_report.specs.Closing.{limit_of, order_by, AreFew, RefusesListing};
+ghost use Rattle.list_report.specs.HeldListings.{formed_in, IsFormedHeld, AreDirections};
+ghost use Rattle.report_steps.specs.Steps.{Answers};
 
 use crate::listed::FormedIrrep;
-use class_list::{ListError, Listing, Order, listing};
+use class_list::{Listing, Order};
 use cyclo24::K24;
-use fix_lattice::{CloseError, Subspaces, close};
 use iso_text::NoMemory;
 use lin_alg::Steps;
 use report_steps::{Refusal, Step};
+use short_listing::{ListingError, listing_of};
 use std::alloc::Global;
 use std::sync::ledger::Ledger;
 
@@ -35,48 +34,28 @@ pub fn direction_order(format: u8) -> Order
     }
 }
 
-/// The fixed subspaces of a real form, each once, or why they are not held.
-pub fn closed<L: Ledger>(
+/// The directions of the classes of fixed subspaces of a real form, in the order of the format, or why
+/// there is no listing.
+pub fn listed_directions<L: Ledger>(
     alloc: Global,
     formed: &FormedIrrep,
     steps: &mut Steps<L>,
-) -> Result<Step<Subspaces<K24>>, NoMemory>
+) -> Result<Step<Listing<K24>>, NoMemory>
     requires { IsFormedHeld formed.now }
-    ensures { IfOk result (λ step. Answers (OrWide RefusesSubspaces AreWideSubspaces (formed_in formed.now)) (λ spaces. AreFew (formed_in formed.now) (formed_in formed.now) × AreClosed (action_of formed.now.form) spaces) step) }
+    ensures { IfOk result (λ step. Answers (RefusesListing (formed_in formed.now)) (λ l. AreFew (formed_in formed.now) (formed_in formed.now) × AreDirections (formed_in formed.now) l) step) }
 {
     let _order = formed.quotient.order();
     let limit = subspace_limit(formed.format);
-    match close(alloc, &formed.form, limit as usize, steps) {
-        Ok(spaces) => Ok(Step::Passed(spaces)),
-        Err(CloseError::TooManySubspaces) => Ok(Step::Refused(Refusal::TooManySubspaces(
+    let order = direction_order(formed.format);
+    match listing_of(alloc, &formed.form, limit as usize, order, steps) {
+        Ok(listing) => Ok(Step::Passed(listing)),
+        Err(ListingError::TooManySubspaces) => Ok(Step::Refused(Refusal::TooManySubspaces(
             formed.name,
             limit,
         ))),
-        Err(CloseError::Wide) => Ok(Step::Refused(Refusal::Wide(3))),
-        Err(CloseError::NoMemory) => Err(NoMemory),
-    }
-}
-
-/// The directions of the classes of fixed subspaces, in the order of the format.
-pub fn directions<L: Ledger>(
-    alloc: Global,
-    formed: &FormedIrrep,
-    spaces: Subspaces<K24>,
-    steps: &mut Steps<L>,
-) -> Result<Step<Listing<K24>>, NoMemory>
-    requires { AreClosed (action_of formed.now.form) spaces }
-    ensures { IfOk result (λ step. Answers (OrWide RefusesNone AreWideClasses (formed_in formed.now)) (AreDirections (formed_in formed.now)) step) }
-{
-    match listing(
-        alloc,
-        &formed.form,
-        spaces,
-        direction_order(formed.format),
-        steps,
-    ) {
-        Ok(listing) => Ok(Step::Passed(listing)),
-        Err(ListError::WideStabiliser) => Ok(Step::Refused(Refusal::Wide(3))),
-        Err(ListError::WideImage) => Ok(Step::Refused(Refusal::Wide(4))),
-        Err(ListError::NoMemory) => Err(NoMemory),
+        Err(ListingError::WideSubspace) => Ok(Step::Refused(Refusal::Wide(3))),
+        Err(ListingError::WideStabiliser) => Ok(Step::Refused(Refusal::Wide(3))),
+        Err(ListingError::WideImage) => Ok(Step::Refused(Refusal::Wide(4))),
+        Err(ListingError::NoMemory) => Err(NoMemory),
     }
 }

@@ -1,10 +1,9 @@
 //! What `list` does behind the steps that all jobs share, and its report.
 //!
-//! An irrep is chosen (`place_of`), its real form found (`form_of`), the fixed subspaces of that closed
-//! (`closed`), and the directions of their classes listed (`directions`). Conventions: an order
-//! parameter is a column; elements are numbered from 0, directions from 1. The layer above uses
-//! `list_found` and `listed_text`, or, with watchers, `list_told` and the report of a `ToldListing` in
-//! pieces.
+//! An irrep is chosen (`place_of`), its real form found (`form_of`), and the directions of the classes
+//! of its fixed subspaces listed (`listed_directions`). Conventions: an order parameter is a column;
+//! elements are numbered from 0, directions from 1. The layer above uses `list_found` and
+//! `listed_text`, or, with watchers, `list_told` and the report of a `ToldListing` in pieces.
 #![tactic(auto)]
 
 mod choice;
@@ -24,7 +23,7 @@ mod telling;
 mod told;
 
 pub use choice::place_of;
-pub use closing::{closed, direction_order, directions, subspace_limit};
+pub use closing::{direction_order, listed_directions, subspace_limit};
 pub use laws::{
     law_of_kept_lines, law_of_list, law_of_list_told, law_of_listing_steps, law_of_report_pages,
     law_of_told_pieces,

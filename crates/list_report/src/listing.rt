@@ -5,17 +5,16 @@ ghost use Rattle.real_form.specs.RealForm.{quotient_of, action_of};
 ghost use Rattle.list_report.specs.Choice.{chosen_of};
 ghost use Rattle.list_report.specs.FoundListing.{FindsListing};
 ghost use Rattle.report_steps.specs.HeldFiles.{AreInducedHeld};
-ghost use Rattle.list_report.specs.HeldListings.{formed_by, formed_in, listed_in, IsFormedHeld, IsListingHeld, AreClosed, AreDirections};
+ghost use Rattle.list_report.specs.HeldListings.{formed_by, formed_in, listed_in, IsFormedHeld, IsListingHeld, AreDirections};
 ghost use Rattle.list_report.specs.Closing.{IsListed, AreFew};
-ghost use Rattle.list_report.specs.Listings.{AfterClosing, AfterForm, AfterChoice, IsListedThen};
+ghost use Rattle.list_report.specs.Listings.{AfterForm, AfterChoice, IsListedThen};
 
 use crate::choice::place_of;
-use crate::closing::{closed, directions};
+use crate::closing::listed_directions;
 use crate::listed::{FormedIrrep, ListedIrrep};
 use crate::realising::form_at;
 use class_list::Listing;
 use cyclo24::K24;
-use fix_lattice::Subspaces;
 use iso_text::{Name, NoMemory};
 use lin_alg::{Acts, Steps};
 use real_form::RealForm;
@@ -52,26 +51,6 @@ fn listed(formed: FormedIrrep, listing: Listing<K24>, after: u64, count: Option<
     }
 }
 
-// What is found behind the fixed subspaces.
-fn after_closing<L: Ledger>(
-    alloc: Global,
-    formed: FormedIrrep,
-    spaces: Subspaces<K24>,
-    after: u64,
-    count: Option<u64>,
-    steps: &mut Steps<L>,
-) -> Result<Step<ListedIrrep>, NoMemory>
-    requires held { IsFormedHeld formed }
-    requires closed { AreClosed (action_of formed.form) spaces }
-    requires few { AreFew (formed_in formed) (formed_in formed) }
-    ensures { IfOk result (FindsListing after count (λ next. AfterClosing next (formed_in formed))) }
-{
-    match directions(alloc, &formed, spaces, steps)? {
-        Step::Passed(listing) => Ok(Step::Passed(listed(formed, listing, after, count))),
-        Step::Refused(refusal) => Ok(Step::Refused(refusal)),
-    }
-}
-
 // What is found behind the real form, with a counter of insertions over a blank ledger.
 fn after_form<L: Ledger>(
     alloc: Global,
@@ -87,8 +66,8 @@ fn after_form<L: Ledger>(
     ensures { IfOk result (FindsListing after count (λ next. AfterForm next (formed_in formed))) }
 {
     let mut steps = Steps::<L>::new(blank);
-    match closed(alloc, &formed, &mut steps)? {
-        Step::Passed(spaces) => after_closing(alloc, formed, spaces, after, count, &mut steps),
+    match listed_directions(alloc, &formed, &mut steps)? {
+        Step::Passed(listing) => Ok(Step::Passed(listed(formed, listing, after, count))),
         Step::Refused(refusal) => Ok(Step::Refused(refusal)),
     }
 }

@@ -5,22 +5,20 @@ ghost use Rattle.cyclo24.specs.K24.{exact24};
 ghost use Rattle.iso_text.specs.Ranges.{IsInRange};
 ghost use Rattle.iso_text.specs.declared.sections.IrrepText.{IrrepText as Irrep};
 ghost use Rattle.class_list.specs.Seen.{directions_of};
-ghost use Rattle.real_form.specs.RealForm.{action_of};
 ghost use Rattle.list_report.specs.Choice.{chosen_of};
 ghost use Rattle.list_report.specs.Contexts.{Listed};
-ghost use Rattle.list_report.specs.HeldListings.{formed_in, IsFormedHeld, AreClosed};
+ghost use Rattle.list_report.specs.HeldListings.{formed_in, IsFormedHeld};
 ghost use Rattle.report_steps.specs.HeldFiles.{AreInducedHeld};
-ghost use Rattle.mode_report.specs.DirectionFound.{AfterClasses, AfterSubspaces, AfterForm, AfterChoice, IsFoundAlong};
+ghost use Rattle.mode_report.specs.DirectionFound.{AfterClasses, AfterForm, AfterChoice, IsFoundAlong};
 ghost use Rattle.mode_report.specs.FoundAlong.{FindsAlong, AreSubgroups};
 
 use crate::along::{ModesAlong, after_direction};
 use crate::direction_form::formed_of;
 use class_list::Listing;
 use cyclo24::K24;
-use fix_lattice::Subspaces;
 use iso_text::{Name, NoMemory};
 use lin_alg::Steps;
-use list_report::{FormedIrrep, closed, directions, form_at, place_of};
+use list_report::{FormedIrrep, form_at, listed_directions, place_of};
 use report_steps::{InducedFile, Refusal, Step};
 use std::alloc::Global;
 use std::marker::Brand;
@@ -58,28 +56,6 @@ fn after_classes(
     }
 }
 
-// What is found behind the fixed subspaces.
-fn after_closing<L: Ledger>(
-    alloc: Global,
-    file: InducedFile,
-    formed: FormedIrrep,
-    spaces: Subspaces<K24>,
-    number: u64,
-    steps: &mut Steps<L>,
-) -> Result<Step<ModesAlong>, NoMemory>
-    requires file { AreInducedHeld file }
-    requires ranges { IsInRange file.divided.file }
-    requires held { IsFormedHeld formed }
-    requires quotient { formed.quotient ≡ file.divided.quotient }
-    requires closed { AreClosed (action_of formed.form) spaces }
-    ensures { IfOk result (FindsAlong (AfterSubspaces file.divided number (formed_in formed))) }
-{
-    match directions(alloc, &formed, spaces, steps)? {
-        Step::Passed(listing) => after_classes(alloc, file, formed.name, number, listing),
-        Step::Refused(refusal) => Ok(Step::Refused(refusal)),
-    }
-}
-
 // What is found behind the real form, with a counter of insertions over a blank ledger.
 fn after_form<L: Ledger>(
     alloc: Global,
@@ -98,8 +74,8 @@ fn after_form<L: Ledger>(
     ensures { IfOk result (FindsAlong (AfterForm file.divided number (formed_in formed))) }
 {
     let mut steps = Steps::<L>::new(blank);
-    match closed(alloc, &formed, &mut steps)? {
-        Step::Passed(spaces) => after_closing(alloc, file, formed, spaces, number, &mut steps),
+    match listed_directions(alloc, &formed, &mut steps)? {
+        Step::Passed(listing) => after_classes(alloc, file, formed.name, number, listing),
         Step::Refused(refusal) => Ok(Step::Refused(refusal)),
     }
 }

@@ -1,8 +1,6 @@
 -- What holds in a short type holds over K24.
 --
--- to_long, to_short: a fact of a field and its values
 -- action_carried, row_carried, listing_carried, few_carried, many_carried: an action, a row of its matrices, a listing, and how many subspaces
--- written_below, read_at: rows with one entry written
 -- lines_rows, lines_form, lines_pushed, same_count: rows of the same exact values
 -- forms_carried, directions_next, widths_next: forms and directions of the same exact rows
 use Rattle.std.specs.Prelude.{◌≡◌, ◌<◌, ℕ, true, List, [], ◌∷◌, ◌++◌, Some, length, map, get_or, slice_get, take, refl, suc, zero}
@@ -12,7 +10,7 @@ use Rattle.cyclo24.specs.declared.k24.K24.{K24}
 use Rattle.cyclo24.specs.FieldOn.{FieldOn}
 use Rattle.cyclo24.specs.ExactField.{ExactField, Value}
 use Rattle.cyclo24.specs.ExactK24.{Exact24, k24_laws, k24}
-use Rattle.cyclo24.specs.ExactShort.{short24, IsShortField}
+use Rattle.cyclo24.specs.ExactShort.{IsShortField}
 use Rattle.cyclo24.specs.K24.{exact24}
 use Rattle.lin_alg.specs.Rows.{vector, exact_rows, HaveWidth}
 use Rattle.lin_alg.specs.Reduced.{IsForm}
@@ -23,55 +21,30 @@ use Rattle.fix_lattice.specs.Subspaces.{IsWholeForm, AreWholeForms}
 use Rattle.class_list.specs.declared.order.Order.{Order}
 use Rattle.class_list.specs.Directions.{IsListing}
 use Rattle.class_list.specs.Seen.{DirectionView, direction_of, directions_of}
+use Rattle.short_rows.specs.CarriedLaws.{to_long, to_short}
 use Rattle.short_listing.specs.Carried.{exact_lines, AreForms}
 
 module _ {A : Type 0} (f : ExactField) (value : A → Value f) (exact : A → Exact24) (e : IsShortField f value exact) where
-  -- a fact of a short field and its values, over K24
-  pub to_long : (P : (g : ExactField) → (A → Value g) → Type 0) → P f value → P short24 exact
-  to_long P h = subst (λ p. P p.0 p.1) e h
-
-  -- and back
-  pub to_short : (P : (g : ExactField) → (A → Value g) → Type 0) → P short24 exact → P f value
-  to_short P h = subst (λ p. P p.0 p.1) (sym e) h
-
   pub action_carried : (act : Action) → IsAction k24_laws act → IsAction f.laws act
-  action_carried act h = to_short (λ g v. IsAction g.laws act) h
+  action_carried act h = to_short f value exact e (λ g v. IsAction g.laws act) h
 
   pub row_carried : (act : Action) (q i n : ℕ) (xs : List A) → ((j : ℕ) → j < n → vector k24_laws exact xs j ≡ entry_of k24_laws act q i j) → (j : ℕ) → j < n → vector f.laws value xs j ≡ entry_of f.laws act q i j
-  row_carried act q i n xs h = to_short (λ g v. (j : ℕ) → j < n → vector g.laws v xs j ≡ entry_of g.laws act q i j) h
+  row_carried act q i n xs h = to_short f value exact e (λ g v. (j : ℕ) → j < n → vector g.laws v xs j ≡ entry_of g.laws act q i j) h
 
   pub few_carried : (act : Action) (n : ℕ) → (AreMoreFixes f.laws act n → ⊥) → AreMoreFixes k24_laws act n → ⊥
-  few_carried act n h = to_long (λ g v. AreMoreFixes g.laws act n → ⊥) h
+  few_carried act n h = to_long f value exact e (λ g v. AreMoreFixes g.laws act n → ⊥) h
 
   pub many_carried : (act : Action) (n : ℕ) → AreMoreFixes f.laws act n → AreMoreFixes k24_laws act n
-  many_carried act n h = to_long (λ g v. AreMoreFixes g.laws act n) h
+  many_carried act n h = to_long f value exact e (λ g v. AreMoreFixes g.laws act n) h
 
   pub listing_carried : (act : Action) (order : Order) (ds : List (DirectionView A)) (es : List (DirectionView K24)) → directions_of k24_laws exact24 es ≡ directions_of k24_laws exact ds
       → IsListing f.laws f.cmp act order (directions_of f.laws value ds) → IsListing k24_laws k24.cmp act order (directions_of k24_laws exact24 es)
   listing_carried act order ds es d h =
-      subst (IsListing k24_laws k24.cmp act order) (sym d) (to_long (λ g v. IsListing g.laws g.cmp act order (directions_of g.laws v ds)) h)
+      subst (IsListing k24_laws k24.cmp act order) (sym d) (to_long f value exact e (λ g v. IsListing g.laws g.cmp act order (directions_of g.laws v ds)) h)
 
 length_mapped : {A B : Type 0} (f : A → B) (xs : List A) → length (map f xs) ≡ length xs
 length_mapped f [] = refl
 length_mapped f (x ∷ xs) = ap suc (length_mapped f xs)
-
--- a row with one entry written
-module _ {A K : Type 0} (f : FieldOn K) (value : A → K) where
-  pub written_same : (xs : List A) (j : ℕ) (x : A) → j < length xs → vector f value (set xs j x) j ≡ value x
-  written_same xs j x l = get_or-map value (set xs j x) j x f.nought (rw length-set l) ∙ ap value (get_or-set_same xs j x x l)
-
-  pub written_other : (xs : List A) (j k : ℕ) (x : A) → (k ≡ j → ⊥) → vector f value (set xs j x) k ≡ vector f value xs k
-  written_other xs j k x n = ap (λ ys. get_or ys k f.nought) (map-set value xs j x) ∙ get_or-set_other (map value xs) j k (value x) f.nought n
-
-  pub read_at : (xs : List A) (j : ℕ) (x : A) → j < length xs → x ≡ get_or xs j x → vector f value xs j ≡ value x
-  read_at xs j x l e = get_or-map value xs j x f.nought l ∙ ap value (sym e)
-
-  pub written_below : (target : ℕ → K) (xs : List A) (j : ℕ) (x : A) → j < length xs → value x ≡ target j → ((k : ℕ) → k < j → vector f value xs k ≡ target k)
-      → (k : ℕ) → k < j + 1 → vector f value (set xs j x) k ≡ target k
-  written_below target xs j x l e h =
-      below_more (λ k. vector f value (set xs j x) k ≡ target k) j
-      (λ k m. let n : k ≡ j → ⊥ = omega arith in written_other xs j k x n ∙ h k m)
-      (written_same xs j x l ∙ e)
 
 -- the exact rows of such a list
 abbrev of_lines : List (ℕ × List Exact24) → List (ℕ × (ℕ → Exact24))

@@ -1,9 +1,9 @@
 // An action whose matrices are given in short values.
 ghost use Rattle.std.specs.Prelude.{◌≡◌, ◌≤◌};
 
-use crate::rows::shortened;
 use cyclo24::{Field, K24, Short, ShortRational, Wide};
 use lin_alg::Acts;
+use short_rows::shortened;
 
 /// The same action over short values, of a dimension up to 24. Giving a row is wide where it is wide
 /// in 128 bits, or an entry isn't held.

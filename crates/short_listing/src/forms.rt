@@ -8,11 +8,11 @@ ghost use Rattle.fix_lattice.specs.Subspaces.{IsWholeForm};
 ghost use Rattle.class_list.specs.Seen.{direction_of, directions_of};
 ghost use Rattle.short_listing.specs.Carried.{exact_lines, AreForms};
 
-use crate::rows::lengthened;
 use class_list::{Direction, Listing};
 use cyclo24::{Field, K24, Short};
 use iso_text::{NoMemory, Stab};
 use lin_alg::Echelon;
+use short_rows::lengthened;
 use std::alloc::Global;
 
 // The rows of a form with their pivots, in 128 bits.

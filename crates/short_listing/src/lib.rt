@@ -10,7 +10,6 @@
 mod acts;
 mod errors;
 mod forms;
-mod rows;
 mod runs;
 
 pub use errors::ListingError;

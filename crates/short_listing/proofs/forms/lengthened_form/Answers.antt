@@ -3,7 +3,8 @@ use Rattle.cyclo24.specs.ExactK24.{k24_laws}
 use Rattle.cyclo24.specs.K24.{exact24}
 use Rattle.lin_alg.specs.Rows.{exact_rows}
 use Rattle.lin_alg.specs.Echelon.{IsEchelon}
-use Rattle.short_listing.specs.CarriedLaws.{to_long, lines_form, lines_rows}
+use Rattle.short_rows.specs.CarriedLaws.{to_long}
+use Rattle.short_listing.specs.CarriedLaws.{lines_form, lines_rows}
 use Rattle.short_listing.proofs.forms.lengthened_form.Goals as goal
 
 pub from_rows-requires : goal.from_rows-requires

@@ -9,7 +9,7 @@ use iso_text::NoMemory;
 use std::alloc::Global;
 
 /// The row of the same exact values in 128 bits.
-pub(crate) fn lengthened<S: Short>(alloc: Global, row: &[S]) -> Result<Vec<K24>, NoMemory>
+pub fn lengthened<S: Short>(alloc: Global, row: &[S]) -> Result<Vec<K24>, NoMemory>
     ensures { IfOk result (λ v. map exact24 v.items ≡ map S.exact row.now) }
 {
     let mut values = Vec::new(alloc);
@@ -24,7 +24,7 @@ pub(crate) fn lengthened<S: Short>(alloc: Global, row: &[S]) -> Result<Vec<K24>,
 
 /// Writes the row of the same exact values in short values, unless one of them isn't held. After
 /// `Wide` it holds any values.
-pub(crate) fn shortened<S: Short>(row: &[K24], into: &mut [S]) -> Result<(), Wide>
+pub fn shortened<S: Short>(row: &[K24], into: &mut [S]) -> Result<(), Wide>
     requires { length into.old ≡ length row.now }
     ensures exact { OnOk result ((j : ℕ) → j < length row.now → vector k24_laws S.exact into.new j ≡ vector k24_laws exact24 row.now j) }
     ensures wide { OnErr result ((j : ℕ) × (j < length row.now) × (S.holds (vector k24_laws exact24 row.now j) ≡ false)) }

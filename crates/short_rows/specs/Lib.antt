@@ -1,0 +1,4 @@
+-- The modules, each behind those that it stands on.
+
+-- what holds in a short type holds over K24
+pub mod CarriedLaws
