@@ -2,6 +2,7 @@
 use Rattle.std.proofs.Common.{◌≡◌, ◌⊎◌, inl, inr, Err, refl, sym, subst, map, ℕ, Bool, true, false, List, [], Option, Some, None, Result}
 use Rattle.extra_modes.specs.declared.nature.Nature.{Nature}
 use Rattle.iso_watch.specs.Watchers.{Watcher}
+use Rattle.list_report.specs.Telling.{IsListTold}
 use Rattle.report_steps.specs.declared.context.InducedFile.{InducedFile}
 use Rattle.iso_report.specs.declared.job.Job.{Job}
 use Rattle.iso_report.specs.declared.job.Job.TheVariants as job
@@ -15,7 +16,7 @@ use Rattle.report_steps.specs.IrrepReport.{AreFactsOf}
 use Rattle.report_steps.specs.EachLaws.{each-map}
 use Rattle.iso_report.specs.Check.{check_text}
 use Rattle.iso_report.specs.Endings.{Change, Left, Ends, change, left}
-use Rattle.iso_report.specs.Outcome.{IsChecked, IsFound, Alone, IsUntold}
+use Rattle.iso_report.specs.Outcome.{IsChecked, IsFound, Alone}
 use Rattle.iso_report.proofs.EndingLemmas.{ends-alone, grown_by_nothing, grown_by_prefix}
 
 -- a checked file
@@ -65,8 +66,8 @@ extra-ends nature amps other found d out r e m h =
     (ends-alone (found d) (IsFound (job.Extra nature other) [] [] d) (λ f w. m f (w, refl)) out [] r h)
 
 -- want of memory: no watcher was told, or all of the page that is found
-pub memory-left : (P : Finding → Type 0) (ws new : List Watcher) (held : Option (List ℕ)) (faults : ℕ) → ((f : Finding) → P f → IsUntold f ws new) → (new ≡ ws) ⊎ ((f : Finding) × P f)
-    → Ends {Unit {0}} P (left (change held held faults faults) ws new) (Err run_error.NoMemory)
-memory-left P ws new held faults m (inl e) = inl (grown_by_nothing held, e)
-memory-left P ws new held faults m (inr (report bytes, h)) = inr (bytes, h, grown_by_prefix bytes held)
-memory-left P ws new held faults m (inr (refused r, h)) = inl (grown_by_nothing held, m (refused r) h)
+pub memory-left : (wanted : Option (List ℕ)) (after : ℕ) (count : Option ℕ) (tally : Bool) (ws new : List Watcher) (d : Divided) (held : Option (List ℕ)) (faults : ℕ)
+    → (new ≡ ws) ⊎ ((f : Finding) × IsListTold wanted after count tally ws new d f) → Ends {Unit {0}} (IsListTold wanted after count tally ws new d) (left (change held held faults faults) ws new) (Err run_error.NoMemory)
+memory-left wanted after count tally ws new d held faults (inl e) = inl (grown_by_nothing held, e)
+memory-left wanted after count tally ws new d held faults (inr (report bytes, h)) = inr (bytes, h, grown_by_prefix bytes held)
+memory-left wanted after count tally ws new d held faults (inr (refused r, h)) = inl (grown_by_nothing held, h.1)

@@ -139,6 +139,6 @@ module _ (s : AreSettled) (j : Job) (ws : List Watcher) where
   left-so new = found-map (IsFound j ws new) (HasFound j ws) (λ d f h. (new, h))
 
   pub outcome-one : (source : List ℕ) (f g : Finding) → HasOutcome j ws source f → HasOutcome j ws source g → IsNoWide f → IsNoWide g → f ≡ g
-  outcome-one source f g (new, bytes, a, x, _) (old, other, b, y, _) u v =
+  outcome-one source f g (new, h) (old, k) u v =
       let P : List ℕ → Type 0 = λ z. IsFoundIn (HasFound j ws) z g in
-      bytes-found bytes f g (left-so new bytes f x) (subst P (sym (bytes-one (generated j) source bytes other a b)) (left-so old other g y)) u v
+      bytes-found h.0 f g (left-so new h.0 f h.2) (subst P (sym (bytes-one (generated j) source h.0 k.0 h.1 k.1)) (left-so old k.0 g k.2)) u v
