@@ -3,7 +3,7 @@ use Rattle.couple_report.proofs.CoupleLemmas.{order-few, few-fixes, many-fixes, 
 use Rattle.couple_report.proofs.closing.coupled_directions.Goals as goal
 
 pub listing_of-requires-clause-order : goal.listing_of-requires-clause-order
-listing_of-requires-clause-order g c = order-few c.args.together.now (g.G.Acts.action c.args.acts.now) c.requires.held (subst (λ n. n ≤ 6144) c.order.ensures.value c.order.ensures.few)
+listing_of-requires-clause-order g c = order-few c.args.together.now (g.G.Acts.action c.args.acts.now) c.requires.held (subst (λ n. n ≤ 6144) c.order-order.ensures.value c.order-order.ensures.few)
 
 pub returns-in-Ok : goal.returns-in-Ok
 returns-in-Ok g c =

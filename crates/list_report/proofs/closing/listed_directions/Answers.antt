@@ -3,7 +3,7 @@ use Rattle.list_report.proofs.ClosingLemmas.{order-few, few-fixes, many-fixes, w
 use Rattle.list_report.proofs.closing.listed_directions.Goals as goal
 
 pub listing_of-requires-clause-order : goal.listing_of-requires-clause-order
-listing_of-requires-clause-order g c = order-few c.args.formed.now c.requires (subst (λ n. n ≤ 6144) c.order.ensures.value c.order.ensures.few)
+listing_of-requires-clause-order g c = order-few c.args.formed.now c.requires (subst (λ n. n ≤ 6144) c.order-order.ensures.value c.order-order.ensures.few)
 
 pub returns-in-Ok : goal.returns-in-Ok
 returns-in-Ok g c =
