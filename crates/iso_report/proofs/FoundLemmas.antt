@@ -67,7 +67,7 @@ extra-ends nature amps other found d out r e m h =
 
 -- want of memory: no watcher was told, or all of the page that is found
 pub memory-left : (wanted : Option (List ℕ)) (after : ℕ) (count : Option ℕ) (tally : Bool) (ws new : List Watcher) (d : Divided) (held : Option (List ℕ)) (faults : ℕ)
-    → (new ≡ ws) ⊎ ((f : Finding) × IsListTold wanted after count tally ws new d f) → Ends {Unit {0}} (IsListTold wanted after count tally ws new d) (left (change held held faults faults) ws new) (Err run_error.NoMemory)
+    → (new ≡ ws) ⊎ ((f : Finding) × IsListTold wanted after count tally ws new d f) → Ends {A = Unit {0}} (IsListTold wanted after count tally ws new d) (left (change held held faults faults) ws new) (Err run_error.NoMemory)
 memory-left wanted after count tally ws new d held faults (inl e) = inl (grown_by_nothing held, e)
 memory-left wanted after count tally ws new d held faults (inr (report bytes, h)) = inr (bytes, h, grown_by_prefix bytes held)
 memory-left wanted after count tally ws new d held faults (inr (refused r, h)) = inl (grown_by_nothing held, h.1)
