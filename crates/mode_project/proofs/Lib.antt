@@ -25,3 +25,4 @@ mod AmplitudeLemmas
 mod PivotLemmas
 mod SolvedLemmas
 mod OrbitLemmas
+mod ShortLemmas

@@ -33,6 +33,7 @@ mod rank;
 mod rotations;
 mod rows;
 mod scale;
+mod short;
 mod sites;
 mod solved;
 mod space;
