@@ -26,3 +26,4 @@ mod PivotLemmas
 mod SolvedLemmas
 mod OrbitLemmas
 mod ShortLemmas
+mod ShortSolvedLemmas

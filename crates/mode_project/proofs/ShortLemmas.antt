@@ -87,29 +87,29 @@ module _ {A Z W : Type 0} (exact : A → Exact24) (g : SupercellGroup) (shorts :
   pub short-weights : map (vector k24_laws exact) (rows_in shorts) ≡ exact_weights lists
   short-weights = same ∙ ap exact_weights e
 
+long-split : {A : Type 0} (n : ℕ) (rs : List (ℕ × List A)) (s : ℕ × List A) → AreLong n (rs ++ s ∷ []) → AreLong n rs × (length s.1 ≡ n)
+long-split n [] s h = (tt, h.0)
+long-split n (t ∷ rs) s h = ((h.0, (long-split n rs s h.1).0), (long-split n rs s h.1).1)
+
 -- one more row with its number
-module _ {A Z W : Type 0} (exact : A → Exact24) (all : List (ℕ × Vec A W)) (i : ℕ) (r : ℕ × Vec A W) (l : i < length all) (is : r ≡ get_or all i r) (old new : List (ℕ × Vec K24 Z)) (x : Vec K24 Z)
-    (e : new ≡ old ++ (r.0, x) ∷ []) (p : map exact24 x.items ≡ map exact r.1.items) where
+module _ {A B Z W : Type 0} (u : A → Exact24) (v : B → Exact24) (all : List (ℕ × Vec B W)) (i : ℕ) (r : ℕ × Vec B W) (l : i < length all) (is : r ≡ get_or all i r) (old new : List (ℕ × Vec A Z)) (x : Vec A Z)
+    (e : new ≡ old ++ (r.0, x) ∷ []) where
   all-next : take (i + 1) all ≡ take i all ++ (r.0, r.1) ∷ []
   all-next = take_more all i r l ∙ ap (λ z. take i all ++ z ∷ []) (sym is)
 
-  pub joined-next : joined_rows_in k24_laws exact24 old ≡ joined_rows_in k24_laws exact (take i all) → joined_rows_in k24_laws exact24 new ≡ joined_rows_in k24_laws exact (take (i + 1) all)
-  joined-next h =
-      joined-last k24_laws exact24 old new r.0 x e ∙ (λ k. h k ++ (r.0, values-vector exact24 exact x.items r.1.items p k) ∷ [])
-      ∙ sym (joined-last k24_laws exact (take i all) (take (i + 1) all) r.0 r.1 all-next)
+  pub joined-next : vector k24_laws u x.items ≡ vector k24_laws v r.1.items → joined_rows_in k24_laws u old ≡ joined_rows_in k24_laws v (take i all)
+      → joined_rows_in k24_laws u new ≡ joined_rows_in k24_laws v (take (i + 1) all)
+  joined-next p h = joined-last k24_laws u old new r.0 x e ∙ (λ k. h k ++ (r.0, p k) ∷ []) ∙ sym (joined-last k24_laws v (take i all) (take (i + 1) all) r.0 r.1 all-next)
 
-  long-split : {B : Type 0} (n : ℕ) (rs : List (ℕ × List B)) (s : ℕ × List B) → AreLong n (rs ++ s ∷ []) → AreLong n rs × (length s.1 ≡ n)
-  long-split n [] s h = (tt, h.0)
-  long-split n (t ∷ rs) s h = ((h.0, (long-split n rs s h.1).0), (long-split n rs s h.1).1)
-
-  pub long-next : ((n : ℕ) → AreLong n (lines_in (take i all)) → AreLong n (lines_in old)) → (n : ℕ) → AreLong n (lines_in (take (i + 1) all)) → AreLong n (lines_in new)
-  long-next h n a =
-      let line : ℕ × Vec K24 Z → ℕ × List K24 = λ z. (z.0, z.1.items) in
-      let from : ℕ × Vec A W → ℕ × List A = λ z. (z.0, z.1.items) in
-      let more : lines_in new ≡ lines_in old ++ (r.0, x.items) ∷ [] = ap (λ (zs : List (ℕ × Vec K24 Z)). lines_in zs) e ∙ map-append line old ((r.0, x) ∷ []) in
-      let given : lines_in (take (i + 1) all) ≡ lines_in (take i all) ++ (r.0, r.1.items) ∷ [] = ap (λ (zs : List (ℕ × Vec A W)). lines_in zs) all-next ∙ map-append from (take i all) ((r.0, r.1) ∷ []) in
+  pub long-next : length x.items ≡ length r.1.items → ((n : ℕ) → AreLong n (lines_in (take i all)) → AreLong n (lines_in old))
+      → (n : ℕ) → AreLong n (lines_in (take (i + 1) all)) → AreLong n (lines_in new)
+  long-next p h n a =
+      let line : ℕ × Vec A Z → ℕ × List A = λ z. (z.0, z.1.items) in
+      let from : ℕ × Vec B W → ℕ × List B = λ z. (z.0, z.1.items) in
+      let more : lines_in new ≡ lines_in old ++ (r.0, x.items) ∷ [] = ap (λ (zs : List (ℕ × Vec A Z)). lines_in zs) e ∙ map-append line old ((r.0, x) ∷ []) in
+      let given : lines_in (take (i + 1) all) ≡ lines_in (take i all) ++ (r.0, r.1.items) ∷ [] = ap (λ (zs : List (ℕ × Vec B W)). lines_in zs) all-next ∙ map-append from (take i all) ((r.0, r.1) ∷ []) in
       let b = long-split n (lines_in (take i all)) (r.0, r.1.items) (subst (AreLong n) given a) in
-      subst (AreLong n) (sym more) (long-last k24_laws exact24 n (lines_in old) (r.0, x.items) (h n b.0) (values-length exact24 exact x.items r.1.items p ∙ b.1))
+      subst (AreLong n) (sym more) (long-last k24_laws u n (lines_in old) (r.0, x.items) (h n b.0) (p ∙ b.1))
 
 -- what holds in a short type
 module _ {A : Type 0} (f : ExactField) (value : A → Value f) (exact : A → Exact24) (e : IsShortField f value exact) where

@@ -34,6 +34,7 @@ mod rotations;
 mod rows;
 mod scale;
 mod short;
+mod short_solved;
 mod sites;
 mod solved;
 mod space;
