@@ -1,4 +1,4 @@
-use Rattle.std.proofs.Common.{◌≡◌, ℕ, ◌<◌, sym, ◌∙◌, ap, subst, List}
+use Rattle.std.proofs.Common.{◌≡◌, ℕ, ◌<◌, sym, subst, List}
 use Rattle.cyclo24.specs.ExactField.{ExactField, Value}
 use Rattle.cyclo24.specs.ExactK24.{Exact24, k24_laws}
 use Rattle.cyclo24.specs.ExactShort.{IsShortField}

@@ -1,5 +1,5 @@
-use Rattle.std.proofs.Common.{◌≡◌, ◌≤◌, ◌*◌, ℕ, length, sym, ◌∙◌, ap, subst, arith}
-use Rattle.cyclo24.specs.ExactK24.{Exact24, k24, k24_laws}
+use Rattle.std.proofs.Common.{◌≤◌, ℕ, length, sym, ◌∙◌, ap, subst, arith}
+use Rattle.cyclo24.specs.ExactK24.{Exact24, k24_laws}
 use Rattle.cyclo24.specs.K24.{exact24}
 use Rattle.lin_alg.specs.Matrices.{IsClassFunction}
 use Rattle.lin_alg.specs.Rows.{vector, exact_rows}

@@ -1,4 +1,4 @@
-use Rattle.std.proofs.Common.{◌≡◌, ◌<◌, sym, ◌∙◌, ap, map, arith, below_more, length}
+use Rattle.std.proofs.Common.{◌≡◌, ◌<◌, sym, ◌∙◌, ap, arith, below_more, length}
 use Rattle.cyclo24.specs.ExactK24.{k24, k24_laws}
 use Rattle.cyclo24.specs.K24.{exact24}
 use Rattle.lin_alg.specs.Matrix.{entry}

@@ -1,7 +1,7 @@
 use Rattle.std.proofs.Common.{◌≡◌, ◌<◌, ◌≤◌, ◌*◌, ℕ, [], List, length, map, sym, ◌∙◌, ap, subst, arith}
 use Rattle.std.specs.Prelude.{slice_index, slice_index_or}
 use Rattle.cyclo24.specs.declared.k24.K24.{K24}
-use Rattle.cyclo24.specs.ExactK24.{k24, k24_laws}
+use Rattle.cyclo24.specs.ExactK24.{k24_laws}
 use Rattle.cyclo24.specs.K24.{exact24}
 use Rattle.lin_alg.specs.Rows.{vector, exact_rows}
 use Rattle.super_group.specs.Quotient.{quotient_group}
@@ -10,7 +10,7 @@ use Rattle.mode_project.specs.Joined.{lines_in, joined_rows_in, AreLong}
 use Rattle.mode_project.specs.Modes.{AreModes}
 use Rattle.mode_project.specs.Parts.{rows_in}
 use Rattle.mode_project.proofs.DirectionLemmas.{few-numbers}
-use Rattle.mode_project.proofs.FinalLemmas.{final-modes, free-inside}
+use Rattle.mode_project.proofs.FinalLemmas.{free-inside}
 use Rattle.mode_project.proofs.ShortLemmas.{class-short, found-long}
 use Rattle.mode_project.proofs.short.modes_by_short.Goals as goal
 

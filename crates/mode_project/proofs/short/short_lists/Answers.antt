@@ -1,4 +1,4 @@
-use Rattle.std.proofs.Common.{length, map, sym, ◌∙◌, ap}
+use Rattle.std.proofs.Common.{length, ◌∙◌, ap}
 use Rattle.cyclo24.specs.ExactK24.{k24_laws}
 use Rattle.cyclo24.specs.K24.{exact24}
 use Rattle.lin_alg.specs.Rows.{vector}

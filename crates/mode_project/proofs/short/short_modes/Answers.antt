@@ -1,7 +1,6 @@
-use Rattle.std.proofs.Common.{◌≡◌, ℕ, ◌∙◌, List, ap, length, map, subst}
+use Rattle.std.proofs.Common.{ℕ, ◌∙◌, List, ap, length, map, subst}
 use Rattle.std.specs.Prelude.{IfSome}
 use Rattle.cyclo24.specs.ExactK24.{Exact24, k24_laws}
-use Rattle.cyclo24.specs.K24.{exact24}
 use Rattle.lin_alg.specs.Rows.{vector}
 use Rattle.mode_project.specs.AtomSpace.{space_of}
 use Rattle.mode_project.specs.Modes.{AreModes}
