@@ -4,6 +4,7 @@ use Rattle.std.specs.List.{slice_index}
 use Rattle.cyclo24.specs.ExactField.{ExactField, Value}
 use Rattle.lin_alg.specs.Echelon.{EchelonView}
 use Rattle.lin_alg.specs.Equations.{dot, free_vector}
+use Rattle.lin_alg.specs.FormLaws.{form-length}
 use Rattle.lin_alg.specs.Insertion.{IsWideInsert}
 use Rattle.lin_alg.specs.Matrix.{MatrixView, entry, IsWideDot}
 use Rattle.lin_alg.specs.Reduced.{IsForm, free_columns}
@@ -116,3 +117,12 @@ module _ {A : Type 0} (f : ExactField) (value : A → Value f) (w : ℕ) (form :
       let e : length form ≡ length (row_vectors (exact_rows f.laws value form)) = sym (vectors-length (exact_rows f.laws value form) ∙ exact-length f.laws value form) in
       rows-are f value w (row_vectors (exact_rows f.laws value form)) rows
       (subst (λ (n : ℕ). AreVectors f.laws value w (vector_at f.laws (row_vectors (exact_rows f.laws value form))) rows n) e h)
+
+-- the rows of a form of displacements are few
+pub few-rows : {A : Type 0} (f : ExactField) (value : A → Value f) (n : ℕ) (rows : List (ℕ × List A)) (width : ℕ) → n ≤ 384 → width ≡ n * 3 → IsForm f.laws (n * 3) (exact_rows f.laws value rows) → length rows * width < 2 ^ 32
+few-rows f value n rows width few e form =
+    let three : 3 ≤ 3 = omega arith in
+    let all : n * 3 ≤ 1152 = few-numbers n 3 few three in
+    let own : length (exact_rows f.laws value rows) ≤ n * 3 = form-length f.laws (n * 3) (exact_rows f.laws value rows) form in
+    let exact = exact-length f.laws value rows in
+    few-entries (length rows) width (omega (arith, own, exact, e)) (omega (arith, e, all))

@@ -30,7 +30,7 @@ module _ {A K : Type 0} (f : FieldOn K) (value : A → K) where
       let h : ℕ × Vec A Z → ℕ × List A = λ r. (r.0, r.1.items) in
       ap (λ xs. joined_rows_in f value xs) e ∙ ap (exact_rows f value) (map-append h rows ((j, own) ∷ [])) ∙ rows-last (lines_in rows) (j, own.items)
 
-  long-last : (n : ℕ) (rs : List (ℕ × List A)) (r : ℕ × List A) → AreLong n rs → length r.1 ≡ n → AreLong n (rs ++ r ∷ [])
+  pub long-last : (n : ℕ) (rs : List (ℕ × List A)) (r : ℕ × List A) → AreLong n rs → length r.1 ≡ n → AreLong n (rs ++ r ∷ [])
   long-last n [] r h e = (e, tt)
   long-last n (s ∷ rs) r h e = (h.0, long-last n rs r h.1 e)
 

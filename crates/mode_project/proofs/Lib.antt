@@ -25,3 +25,5 @@ mod AmplitudeLemmas
 mod PivotLemmas
 mod SolvedLemmas
 mod OrbitLemmas
+mod ShortLemmas
+mod ShortSolvedLemmas

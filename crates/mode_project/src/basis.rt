@@ -21,17 +21,18 @@ use crate::errors::FAMILY;
 use crate::laws::law_of_displacements;
 use crate::quantity::{AtomQuantity, PolarVector};
 use crate::quantity_modes::quantity_modes;
+use crate::short::short_modes;
 use crate::sites::free_columns;
 use crate::{ModeError, Modes, Weights};
-use cyclo24::{K24, law_of_squares};
+use cyclo24::{K24, ShortK24, law_of_squares};
 use lin_alg::LinError;
 use std::alloc::Global;
 use std::marker::Brand;
 use super_group::Quotient;
 use wyckoff::Orbit;
 
-// The defined modes.
-fn find_modes<K: AtomQuantity>(
+// The defined modes, found in `K24`.
+fn long_modes<K: AtomQuantity>(
     alloc: Global,
     quotient: &Quotient,
     orbit: &Orbit,
@@ -58,6 +59,26 @@ fn find_modes<K: AtomQuantity>(
     match free_columns(alloc, &joint.form) {
         Ok(sites) => Ok(Modes::of_rows(joint.form.width(), joint.rows, sites)),
         Err(_) => Err(LinError::NoMemory),
+    }
+}
+
+// The defined modes, found in short values where these suffice.
+fn find_modes<K: AtomQuantity>(
+    alloc: Global,
+    quotient: &Quotient,
+    orbit: &Orbit,
+    weights: &Weights,
+    kind: &K,
+) -> Result<Modes, LinError>
+    requires orbit { IsOrbit quotient.now orbit.now }
+    requires weights { AreWeights quotient.now weights.now }
+    ensures modes { IfOk result (λ m. AreModes k24_laws (space_of quotient.now orbit.now (K.quantity kind.now)) (exact_weights weights.now) (irrep_modes_in m) m.sites) }
+    ensures size { IfOk result (λ m. m.size ≡ size_of (space_of quotient.now orbit.now (K.quantity kind.now))) }
+    ensures wide { (result ≡ Err lin_error.Wide) → IsWideModes k24 (space_of quotient.now orbit.now (K.quantity kind.now)) (exact_weights weights.now) }
+{
+    match short_modes::<K, ShortK24>(alloc, quotient, orbit, weights, kind) {
+        Some(modes) => Ok(modes),
+        None => long_modes(alloc, quotient, orbit, weights, kind),
     }
 }
 

@@ -1,5 +1,5 @@
 // The modes of an irrep for a direction.
-ghost use Rattle.std.specs.Prelude.{◌≡◌, ◌<◌, ◌*◌, ℕ, List, Err, IfOk, true, length, slice_index};
+ghost use Rattle.std.specs.Prelude.{◌≡◌, ◌<◌, ◌*◌, ℕ, List, Err, IfOk, IfSome, true, length, slice_index};
 ghost use Rattle.algebra.specs.Subgroup.{IsSubgroup};
 ghost use Rattle.cyclo24.specs.ExactField.{Value};
 ghost use Rattle.cyclo24.specs.ExactK24.{Exact24, k24, k24_laws};
@@ -12,6 +12,7 @@ ghost use Rattle.lin_alg.specs.declared.errors.LinError.TheVariants as lin_error
 ghost use Rattle.super_group.specs.Quotient.{order_of, quotient_group};
 ghost use Rattle.mode_project.specs.AtomSpace.{IsAtomSpace, IsOrbit, size_of, displacements};
 ghost use Rattle.mode_project.specs.DirectionModes.{AreModesOf};
+ghost use Rattle.mode_project.specs.DirectionParts.{IsModeTable};
 ghost use Rattle.mode_project.specs.Modes.{vector_at};
 ghost use Rattle.mode_project.specs.Parts.{rows_in, AreVectors};
 ghost use Rattle.mode_project.specs.Projection.{projection, IsInRange, IsReducedFormOf};
@@ -27,11 +28,12 @@ use crate::left::left_form;
 use crate::quantity::PolarVector;
 use crate::range::range_form;
 use crate::rotations::{turns_of, ways_to};
+use crate::short::{lengthened_table, short_list};
 use crate::space::OfSpace;
 use crate::table::{rows_of, table_of};
 use crate::turns::Turns;
 use crate::{ModeError, Weights};
-use cyclo24::{Field, K24};
+use cyclo24::{Field, K24, Short, ShortK24};
 use lin_alg::{Echelon, LinError, Matrix};
 use std::alloc::Global;
 use std::marker::Brand;
@@ -163,6 +165,86 @@ fn displaced_form<S: OfSpace, F: Field>(
     }
 }
 
+// The modes that are displacements, as rows, found in a short type. None where that is wide, or memory is
+// wanting.
+fn short_table<S: Short>(
+    alloc: Global,
+    quotient: &Quotient,
+    orbit: &Orbit,
+    weights: &[K24],
+    stab: &[usize],
+) -> Option<Matrix<K24>>
+    requires orbit { IsOrbit quotient.now orbit.now }
+    requires weights { length weights.now ≡ order_of quotient.now }
+    requires class { IsClassFunction (quotient_group quotient.now) (vector k24_laws exact24 weights.now) }
+    requires below { (k : ℕ) → k < length stab.now → slice_index stab.now k < order_of quotient.now }
+    ensures cols { IfSome result (λ m. m.cols ≡ length orbit.now.places * 3) }
+    ensures modes { IfSome result (λ m. IsModeTable k24_laws exact24 (displacements quotient.now orbit.now) (vector k24_laws exact24 weights.now) stab.now m) }
+{
+    let _atoms = orbit.atoms();
+    let short = match short_list::<S>(alloc, weights) {
+        Some(short) => short,
+        None => return None,
+    };
+    let form = match displaced_form::<Brand, S>(alloc, quotient, orbit, &short, stab) {
+        Ok(form) => form,
+        Err(_) => return None,
+    };
+    match lengthened_table(alloc, &form) {
+        Ok(table) => Some(table),
+        Err(_) => None,
+    }
+}
+
+// The modes that are displacements, as rows, found in `K24`.
+fn long_table(
+    alloc: Global,
+    quotient: &Quotient,
+    orbit: &Orbit,
+    weights: &[K24],
+    stab: &[usize],
+) -> Result<Matrix<K24>, LinError>
+    requires orbit { IsOrbit quotient.now orbit.now }
+    requires weights { length weights.now ≡ order_of quotient.now }
+    requires class { IsClassFunction (quotient_group quotient.now) (vector k24_laws exact24 weights.now) }
+    requires below { (k : ℕ) → k < length stab.now → slice_index stab.now k < order_of quotient.now }
+    ensures cols { IfOk result (λ m. m.cols ≡ length orbit.now.places * 3) }
+    ensures modes { IfOk result (λ m. IsModeTable k24_laws exact24 (displacements quotient.now orbit.now) (vector k24_laws exact24 weights.now) stab.now m) }
+    ensures wide { (result ≡ Err lin_error.Wide) → IsWideModesOf k24 (displacements quotient.now orbit.now) (vector k24_laws exact24 weights.now) stab.now }
+{
+    let _atoms = orbit.atoms();
+    let form = match displaced_form::<Brand, K24>(alloc, quotient, orbit, weights, stab) {
+        Ok(form) => form,
+        Err(error) => return Err(error),
+    };
+    match table_of(alloc, &form) {
+        Ok(table) => Ok(table),
+        Err(_) => Err(LinError::NoMemory),
+    }
+}
+
+// The modes that are displacements, as rows, found in short values where these suffice.
+fn displaced_table(
+    alloc: Global,
+    quotient: &Quotient,
+    orbit: &Orbit,
+    weights: &[K24],
+    stab: &[usize],
+) -> Result<Matrix<K24>, LinError>
+    requires orbit { IsOrbit quotient.now orbit.now }
+    requires weights { length weights.now ≡ order_of quotient.now }
+    requires class { IsClassFunction (quotient_group quotient.now) (vector k24_laws exact24 weights.now) }
+    requires below { (k : ℕ) → k < length stab.now → slice_index stab.now k < order_of quotient.now }
+    ensures cols { IfOk result (λ m. m.cols ≡ length orbit.now.places * 3) }
+    ensures modes { IfOk result (λ m. IsModeTable k24_laws exact24 (displacements quotient.now orbit.now) (vector k24_laws exact24 weights.now) stab.now m) }
+    ensures wide { (result ≡ Err lin_error.Wide) → IsWideModesOf k24 (displacements quotient.now orbit.now) (vector k24_laws exact24 weights.now) stab.now }
+{
+    match short_table::<ShortK24>(alloc, quotient, orbit, weights, stab) {
+        Some(table) => Ok(table),
+        None => long_table(alloc, quotient, orbit, weights, stab),
+    }
+}
+
 /// The modes of irrep `which` that each element of the stabiliser leaves as they are, as rows.
 /// Condition: the orbit and the weights are of this quotient, there is an irrep `which`, and `stab` is a
 /// subgroup of the quotient. Errors: a number that is too wide; want of memory.
@@ -182,15 +264,10 @@ pub fn modes_of(
     ensures modes { IfOk result (λ m. (rs : List (ℕ × (ℕ → Exact24))) × AreModesOf k24_laws (displacements quotient.now orbit.now) (vector_at k24_laws (exact_weights weights.now) which) stab.now rs × (length rs ≡ m.rows) × ((i : ℕ) → i < m.rows → entry k24_laws exact24 m i ≡ vector_at k24_laws (row_vectors rs) i)) }
     ensures wide { (f : ℕ) → (result ≡ Err (mode_error.Wide f)) → (f ≡ 5) × IsWideModesOf k24 (displacements quotient.now orbit.now) (vector_at k24_laws (exact_weights weights.now) which) stab.now }
 {
-    let _atoms = orbit.atoms();
     let lists = weights.lists();
-    let form = match displaced_form::<Brand, K24>(alloc, quotient, orbit, &lists[which], stab) {
-        Ok(form) => form,
-        Err(LinError::Wide) => return Err(ModeError::Wide(FAMILY)),
-        Err(LinError::NoMemory) => return Err(ModeError::NoMemory),
-    };
-    match table_of(alloc, &form) {
+    match displaced_table(alloc, quotient, orbit, &lists[which], stab) {
         Ok(table) => Ok(table),
-        Err(_) => Err(ModeError::NoMemory),
+        Err(LinError::Wide) => Err(ModeError::Wide(FAMILY)),
+        Err(LinError::NoMemory) => Err(ModeError::NoMemory),
     }
 }

@@ -7,7 +7,9 @@
 //! For the layer above: `modes` gives the defined modes, which are a basis, `modes_of` those of one
 //! irrep that a stabiliser leaves as they are, and `amplitudes` the one list of factors with which the
 //! modes sum up to a displacement; `modes_in` and `amplitudes_in` do the same for any `AtomQuantity` and
-//! `AtomNumbers`. The smallest call: `modes(alloc, &quotient, &orbit, &weights)`.
+//! `AtomNumbers`. All are found in short values of the same field where these suffice, else in `K24`,
+//! whose numbers alone are ever too wide for an answer.
+//! The smallest call: `modes(alloc, &quotient, &orbit, &weights)`.
 #![tactic(auto)]
 
 mod basis;
@@ -33,6 +35,8 @@ mod rank;
 mod rotations;
 mod rows;
 mod scale;
+mod short;
+mod short_solved;
 mod sites;
 mod solved;
 mod space;

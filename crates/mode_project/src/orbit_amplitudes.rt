@@ -10,7 +10,7 @@ ghost use Rattle.mode_project.specs.OrbitAmplitudes.{quotient_of, in_wholes, dis
 ghost use Rattle.mode_project.specs.declared.errors.AmpError.TheVariants as amp_error;
 
 use crate::errors::AMPLITUDE_FAMILY;
-use crate::solved::solved;
+use crate::short_solved::solved_rows;
 use crate::unit_numbers::AtomNumbers;
 use crate::{AmpError, Modes};
 use cyclo24::K24;
@@ -68,7 +68,7 @@ pub fn amplitudes_in<N: AtomNumbers>(
         Ok(target) => target,
         Err(_) => return Err(LinError::NoMemory),
     };
-    match solved(alloc, modes.rows(), modes.sites(), &target) {
+    match solved_rows(alloc, modes.rows(), modes.sites(), &target) {
         Ok(all) => Ok(Row::from_vec(all)),
         Err(error) => Err(error),
     }

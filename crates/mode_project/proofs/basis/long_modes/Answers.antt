@@ -12,7 +12,7 @@ use Rattle.mode_project.specs.Weights.{exact_weights}
 use Rattle.mode_project.specs.Wide.{IsWideModes}
 use Rattle.mode_project.proofs.DirectionLemmas.{few-numbers}
 use Rattle.mode_project.proofs.FinalLemmas.{weight-at, final-modes, free-inside, same-error}
-use Rattle.mode_project.proofs.basis.find_modes.Goals as goal
+use Rattle.mode_project.proofs.basis.long_modes.Goals as goal
 
 pub quantity_modes-requires-clause-weights : goal.quantity_modes-requires-clause-weights
 quantity_modes-requires-clause-weights g c j l = (weight-at c.args.quotient.now c.lists.result.now c.args.weights.now c.lists.ensures c.requires.weights j l).count

@@ -1,5 +1,5 @@
 use Rattle.mode_project.specs.AtomSpace.{space_of}
-use Rattle.mode_project.proofs.basis.find_modes.Given as goal
+use Rattle.mode_project.proofs.short.modes_by_short.Given as goal
 
 abbrev pub ghosts-quantity_modes : goal.ghosts-quantity_modes
 ghosts-quantity_modes g a = record { space = space_of a.quotient.now a.orbit.now (g.K.AtomQuantity.quantity a.kind.now) }
