@@ -51,20 +51,20 @@ module _
     (products : (x y : Value g) → long x ≡ false → long y ≡ false → g.is_wide_product x y ≡ false)
     (sums : (x y : Value g) → long x ≡ false → long y ≡ false → g.is_wide_sum x y ≡ false)
   where
-  term_narrow : (s x y : Value g) → long s ≡ false → long x ≡ false → long y ≡ false → (IsLongTerm g.laws long s x y → ⊥) → g.laws.is_nought x ≡ false → g.laws.is_nought y ≡ false →
-      IsTrue (g.is_wide_product x y) ⊎ ((g.laws.is_nought s ≡ false) × IsTrue (g.is_wide_sum s (g.laws.times x y))) → ⊥
-  term_narrow s x y hs hx hy n nx ny (inl p) = apart p (products x y hx hy)
-  term_narrow s x y hs hx hy n nx ny (inr q) = apart q.1 (sums s (g.laws.times x y) hs (product_kept g.laws long s x y nx ny n))
+    term_narrow : (s x y : Value g) → long s ≡ false → long x ≡ false → long y ≡ false → (IsLongTerm g.laws long s x y → ⊥) → g.laws.is_nought x ≡ false → g.laws.is_nought y ≡ false →
+        IsTrue (g.is_wide_product x y) ⊎ ((g.laws.is_nought s ≡ false) × IsTrue (g.is_wide_sum s (g.laws.times x y))) → ⊥
+    term_narrow s x y hs hx hy n nx ny (inl p) = apart p (products x y hx hy)
+    term_narrow s x y hs hx hy n nx ny (inr q) = apart q.1 (sums s (g.laws.times x y) hs (product_kept g.laws long s x y nx ny n))
 
-  -- a sum of products of short values that gives nothing long isn't wide
-  pub dot_narrow : (d : ℕ) (x y : ℕ → Value g) → long g.laws.nought ≡ false → ((k : ℕ) → long (x k) ≡ false) → ((k : ℕ) → long (y k) ≡ false) →
-      ((k : ℕ) → k < d → IsLongTerm g.laws long (total g.laws k (λ l. g.laws.times (x l) (y l))) (x k) (y k) → ⊥) → IsWideDot g d x y → ⊥
-  dot_narrow d x y z hx hy n w =
-      let k : ℕ = w.0 in
-      let l : k < d = w.1 in
-      let s = total g.laws k (λ l. g.laws.times (x l) (y l)) in
-      let t : IsWideTerm g s (x k) (y k) = w.2 in
-      term_narrow s (x k) (y k) (sums_short g.laws long k x y z (λ m b. n m (omega (arith, b, l)))) (hx k) (hy k) (n k l) t.0 t.1 t.2
+    -- a sum of products of short values that gives nothing long isn't wide
+    pub dot_narrow : (d : ℕ) (x y : ℕ → Value g) → long g.laws.nought ≡ false → ((k : ℕ) → long (x k) ≡ false) → ((k : ℕ) → long (y k) ≡ false) →
+        ((k : ℕ) → k < d → IsLongTerm g.laws long (total g.laws k (λ l. g.laws.times (x l) (y l))) (x k) (y k) → ⊥) → IsWideDot g d x y → ⊥
+    dot_narrow d x y z hx hy n w =
+        let k : ℕ = w.0 in
+        let l : k < d = w.1 in
+        let s = total g.laws k (λ l. g.laws.times (x l) (y l)) in
+        let t : IsWideTerm g s (x k) (y k) = w.2 in
+        term_narrow s (x k) (y k) (sums_short g.laws long k x y z (λ m b. n m (omega (arith, b, l)))) (hx k) (hy k) (n k l) t.0 t.1 t.2
 
 -- the same over K24
 dot24 : (d : ℕ) (x y : ℕ → Exact24) → ((k : ℕ) → is_long (x k).0 ≡ false) → ((k : ℕ) → is_long (y k).0 ≡ false) → (IsWideDot short24 d x y → ⊥) → IsWideDot k24 d x y → ⊥
