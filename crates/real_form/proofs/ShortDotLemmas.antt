@@ -1,5 +1,5 @@
 -- A sum of products that isn't wide in short values isn't wide.
-use Rattle.std.proofs.Common.{◌≡◌, ◌<◌, ◌≤◌, ◌+◌, ◌*◌, ◌⊎◌, inl, inr, ℕ, zero, suc, refl, sym, ap, ◌∙◌, subst, arith, Bool, true, false}
+use Rattle.std.proofs.Common.{◌≡◌, ◌<◌, ◌+◌, ◌*◌, ◌⊎◌, inl, inr, ℕ, zero, suc, refl, sym, ap, ◌∙◌, subst, arith, Bool, true, false}
 use Rattle.std.specs.Prelude.{IsTrue}
 use Rattle.algebra.specs.SolveLaws.{by_test}
 use Rattle.cyclo24.specs.declared.k24.K24.{K24}

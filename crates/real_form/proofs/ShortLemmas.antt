@@ -1,6 +1,5 @@
 -- In sums and products of short values no written number is wide.
 use Rattle.std.proofs.Common.{◌≡◌, ◌≤◌, ◌^◌, ◌+◌, ◌*◌, ℕ, zero, suc, refl, sym, ap, ◌∙◌, arith, ℤ, pos, List, [], ◌∷◌, Bool, true, false, not, get_or, lit≤, le_trans, ltb, if◌then◌else◌}
-use Rattle.std.specs.Prelude.{◌&&◌}
 use Rattle.std.specs.Int.RustNames.{unsigned_abs}
 use Rattle.std.specs.List.{list_all}
 use Rattle.algebra.specs.SolveLaws.{by_test}
@@ -16,9 +15,9 @@ use Rattle.cyclo24.specs.ShortLaws.{short_narrow, times_narrow}
 use Rattle.cyclo24.specs.Short4.{short_of, IsWithin4}
 use Rattle.cyclo24.specs.Long.{is_short, is_long}
 use Rattle.cyclo24.specs.LongLaws.{long_is, short_below, below_short}
-use Rattle.cyclo24.specs.Written4.{numbers4, fraction_of, product0, product1, product2, product3, product, joined, sum_over, sum}
+use Rattle.cyclo24.specs.Written4.{fraction_of, product0, product1, product2, product3, product, joined, sum_over, sum}
 use Rattle.cyclo24.specs.Lowest4Laws.{fraction_all, short, two_all}
-use Rattle.cyclo24.specs.Packed4.{widened, IsPacked4}
+use Rattle.cyclo24.specs.Packed4.{IsPacked4}
 use Rattle.cyclo24.specs.ExactK24.{Exact24, k24, k24_laws}
 use Rattle.cyclo24.specs.K24Laws.{zero24}
 use Rattle.cyclo24.specs.ShortK24.{exact_short}

@@ -3,7 +3,7 @@ use Rattle.cyclo24.specs.K24.{exact24}
 use Rattle.cyclo24.specs.ShortK24.{exact_short}
 use Rattle.cyclo24.specs.ExactK24.{k24_laws}
 use Rattle.lin_alg.specs.Matrix.{entry}
-use Rattle.real_form.proofs.FilledLemmas.{filled-start, filled-next}
+use Rattle.real_form.proofs.FilledLemmas.{filled-next}
 use Rattle.real_form.proofs.narrow.fill_row.Goals as goal
 
 pub loop-j-preserved : goal.loop-j-preserved
