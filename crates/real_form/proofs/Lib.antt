@@ -19,6 +19,9 @@ mod LineLemmas
 mod FirstLemmas
 mod PushLemmas
 mod NarrowLemmas
+mod FilledLemmas
+mod ShortLemmas
+mod ShortDotLemmas
 mod AnswerLemmas
 mod AssemblyLemmas
 mod FactorLemmas

@@ -8,7 +8,7 @@ ghost use Rattle.real_form.specs.Held.{generator_of, entry_in, IsStacked, AreNar
 
 use crate::FormError;
 use crate::assembly::factors;
-use crate::matrices::check_products;
+use crate::narrow::check_matrices;
 use crate::product::product_row;
 use crate::real_basis::basis_lines;
 use cyclo24::{K24, Wide, Z24};
@@ -122,7 +122,7 @@ impl RealForm {
         };
         let mut room = zeros(alloc, lines.len())?;
         let listed = quotient.group().len();
-        match check_products(&factors.0, &factors.1, listed, &mut room) {
+        match check_matrices(alloc, &factors.0, &factors.1, listed, &mut room) {
             Ok(()) => {}
             Err(_) => return Err(LinError::Wide),
         }

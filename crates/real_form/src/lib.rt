@@ -18,6 +18,7 @@ mod image;
 mod insertion;
 mod lifting;
 mod matrices;
+mod narrow;
 mod phases;
 mod places;
 mod product;

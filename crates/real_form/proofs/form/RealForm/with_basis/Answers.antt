@@ -32,7 +32,7 @@ keep-requires c =
     let factors : AreFactorsOf s n D rows left right = subst (λ xs. AreFactorsOf s n D (lines_of xs) left right) c.deref.ensures.value c.in-Ok.ensures.factors in
     let ops : c.len-listed.result ≡ length s.parent.ops = c.len-listed.ensures.value ∙ ap (λ g. length g.ops) c.group.ensures in
     let narrow : (p r j : ℕ) → p < left.rows → r < length s.parent.ops → j < left.cols → IsWideDot k24 left.cols (entry k24_laws exact24 left p) (λ k. entry k24_laws exact24 right (r * left.cols + k) j) → ⊥ =
-    λ p r j lp lr lj. c.in-Ok-check_products.ensures.narrow p r j lp (subst (λ (k : ℕ). r < k) (sym ops) lr) lj in
+    λ p r j lp lr lj. c.in-Ok-check_matrices.ensures.narrow p r j lp (subst (λ (k : ℕ). r < k) (sym ops) lr) lj in
     let k = keepable s c.order-order.ensures.quotient n D rep one rows c.requires.basis left right factors narrow d (rw length-map refl) in
     subst (λ (q : SupercellGroup). IsHeld q d left right) (sym c.in_ok-copy.ensures) k.held
 
@@ -48,8 +48,8 @@ returns-in-Err-clause-wide c w =
     wide-factors s c.order-order.ensures.quotient n D rep one rows c.requires.basis
     (subst (λ xs. IsWideFactors n (order_of s) D (exact_rows k24_laws exact24 (lines_of xs))) c.deref.ensures.value (let same : c.in-Err.error ≡ Wide = cc in c.in-Err.ensures.wide (ap Err same)))
 
-pub returns-in-Err-check_products-clause-wide : goal.returns-in-Err-check_products-clause-wide
-returns-in-Err-check_products-clause-wide c _ =
+pub returns-in-Err-check_matrices-clause-wide : goal.returns-in-Err-check_matrices-clause-wide
+returns-in-Err-check_matrices-clause-wide c _ =
     let s = c.args.quotient.now in
     let n = dimension_in c.args.induced.now.tables in
     let D = matrix_in s c.args.induced.now.tables in
@@ -61,7 +61,7 @@ returns-in-Err-check_products-clause-wide c _ =
     let right = c.in-Ok.factors.1 in
     let factors : AreFactorsOf s n D rows left right = subst (λ xs. AreFactorsOf s n D (lines_of xs) left right) c.deref.ensures.value c.in-Ok.ensures.factors in
     let ops : c.len-listed.result ≡ length s.parent.ops = c.len-listed.ensures.value ∙ ap (λ g. length g.ops) c.group.ensures in
-    let w = c.in-Err-check_products.ensures.wide in
+    let w = c.in-Err-check_matrices.ensures.wide in
     wide-products s c.order-order.ensures.quotient n D rep one rows c.requires.basis left right factors (w.0, w.1, w.2, w.3, subst (λ (k : ℕ). w.1 < k) ops w.4, w.5, w.6)
 
 pub returns-clause-matrices : goal.returns-clause-matrices
@@ -78,7 +78,7 @@ returns-clause-matrices c =
     let factors : AreFactorsOf s n D rows left right = subst (λ xs. AreFactorsOf s n D (lines_of xs) left right) c.deref.ensures.value c.in-Ok.ensures.factors in
     let ops : c.len-listed.result ≡ length s.parent.ops = c.len-listed.ensures.value ∙ ap (λ g. length g.ops) c.group.ensures in
     let narrow : (p r j : ℕ) → p < left.rows → r < length s.parent.ops → j < left.cols → IsWideDot k24 left.cols (entry k24_laws exact24 left p) (λ k. entry k24_laws exact24 right (r * left.cols + k) j) → ⊥ =
-    λ p r j lp lr lj. c.in-Ok-check_products.ensures.narrow p r j lp (subst (λ (k : ℕ). r < k) (sym ops) lr) lj in
+    λ p r j lp lr lj. c.in-Ok-check_matrices.ensures.narrow p r j lp (subst (λ (k : ℕ). r < k) (sym ops) lr) lj in
     let k = keepable s c.order-order.ensures.quotient n D rep one rows c.requires.basis left right factors narrow (length c.args.lines.items) (rw length-map refl) in
     let form = c.keep.result in
     let same_quotient : s ≡ form.quotient = sym (c.keep.ensures.quotient ∙ c.in_ok-copy.ensures) in
