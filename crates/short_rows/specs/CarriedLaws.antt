@@ -1,7 +1,6 @@
 -- What holds in a short type holds over K24.
 --
 -- to_long: a fact of a short field and its values, over K24; to_short: and back
-use Rattle.std.specs.Prelude.{◌≡◌}
 use Rattle.std.proofs.Common.{sym, subst}
 use Rattle.cyclo24.specs.ExactField.{ExactField, Value}
 use Rattle.cyclo24.specs.ExactK24.{Exact24}
