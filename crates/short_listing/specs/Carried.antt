@@ -1,19 +1,24 @@
 -- What a short type gives for K24.
 --
--- LacksEntry holds act: an entry of a matrix isn't held
+-- IsTableOf f value act m: m holds the matrices of act, one below the other
 -- exact_lines value rows: the rows with their pivots as lists of exact values
 -- AreForms ws es: whole forms over K24, each of the width at its place
-use Rattle.std.specs.Prelude.{◌≡◌, ◌<◌, ℕ, Bool, false, List, [], ◌∷◌, map}
+use Rattle.std.specs.Prelude.{◌≡◌, ◌<◌, ◌+◌, ◌*◌, ℕ, ℤ, Bool, List, [], ◌∷◌, map}
+use Rattle.cyclo24.specs.FieldOn.{FieldOn}
+use Rattle.cyclo24.specs.ExactField.{Exact}
 use Rattle.cyclo24.specs.ExactK24.{Exact24, k24_laws}
 use Rattle.cyclo24.specs.declared.k24.K24.{K24}
 use Rattle.cyclo24.specs.K24.{exact24}
 use Rattle.lin_alg.specs.Action.{Action, entry_of}
+use Rattle.lin_alg.specs.Matrix.{MatrixView, entry}
 use Rattle.lin_alg.specs.Echelon.{EchelonView}
 use Rattle.fix_lattice.specs.Subspaces.{IsWholeForm}
 
--- an entry of a matrix isn't held
-abbrev pub LacksEntry : (Exact24 → Bool) → Action → Type 0
-LacksEntry holds act = (q : ℕ) × (i : ℕ) × (j : ℕ) × (q < act.group.order) × (i < act.dim) × (j < act.dim) × (holds (entry_of k24_laws act q i j) ≡ false)
+-- row q dim + i of m is row i of A(q)
+pub record IsTableOf {valid : List ℤ → Bool} {A : Type 0} (f : FieldOn (Exact valid)) (value : A → Exact valid) (act : Action) (m : MatrixView A) : Type 0 where
+  pub rows : m.rows ≡ act.group.order * act.dim
+  pub cols : m.cols ≡ act.dim
+  pub entries : (q i j : ℕ) → q < act.group.order → i < act.dim → j < act.dim → entry f value m (q * act.dim + i) j ≡ entry_of f act q i j
 
 -- the rows with their pivots as lists of exact values
 abbrev pub exact_lines : {A : Type 0} → (A → Exact24) → List (ℕ × List A) → List (ℕ × List Exact24)

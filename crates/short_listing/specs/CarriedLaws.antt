@@ -1,6 +1,6 @@
 -- What holds in a short type holds over K24.
 --
--- action_carried, row_carried, listing_carried, few_carried, many_carried: an action, a row of its matrices, a listing, and how many subspaces
+-- action_carried, table_carried, listing_carried, few_carried, many_carried: an action, a table of its matrices, a listing, and how many subspaces
 -- lines_rows, lines_form, lines_pushed, same_count: rows of the same exact values
 -- forms_carried, directions_next, widths_next: forms and directions of the same exact rows
 use Rattle.std.specs.Prelude.{◌≡◌, ◌<◌, ℕ, true, List, [], ◌∷◌, ◌++◌, Some, length, map, get_or, slice_get, take, refl, suc, zero}
@@ -15,21 +15,22 @@ use Rattle.cyclo24.specs.K24.{exact24}
 use Rattle.lin_alg.specs.Rows.{vector, exact_rows, HaveWidth}
 use Rattle.lin_alg.specs.Reduced.{IsForm}
 use Rattle.lin_alg.specs.Echelon.{EchelonView, IsEchelon}
-use Rattle.lin_alg.specs.Action.{Action, IsAction, entry_of}
+use Rattle.lin_alg.specs.Action.{Action, IsAction}
+use Rattle.lin_alg.specs.Matrix.{MatrixView}
 use Rattle.fix_lattice.specs.Lattice.{AreMoreFixes}
 use Rattle.fix_lattice.specs.Subspaces.{IsWholeForm, AreWholeForms}
 use Rattle.class_list.specs.declared.order.Order.{Order}
 use Rattle.class_list.specs.Directions.{IsListing}
 use Rattle.class_list.specs.Seen.{DirectionView, direction_of, directions_of}
 use Rattle.short_rows.specs.CarriedLaws.{to_long, to_short}
-use Rattle.short_listing.specs.Carried.{exact_lines, AreForms}
+use Rattle.short_listing.specs.Carried.{IsTableOf, exact_lines, AreForms}
 
 module _ {A : Type 0} (f : ExactField) (value : A → Value f) (exact : A → Exact24) (e : IsShortField f value exact) where
   pub action_carried : (act : Action) → IsAction k24_laws act → IsAction f.laws act
   action_carried act h = to_short f value exact e (λ g v. IsAction g.laws act) h
 
-  pub row_carried : (act : Action) (q i n : ℕ) (xs : List A) → ((j : ℕ) → j < n → vector k24_laws exact xs j ≡ entry_of k24_laws act q i j) → (j : ℕ) → j < n → vector f.laws value xs j ≡ entry_of f.laws act q i j
-  row_carried act q i n xs h = to_short f value exact e (λ g v. (j : ℕ) → j < n → vector g.laws v xs j ≡ entry_of g.laws act q i j) h
+  pub table_carried : (act : Action) (m : MatrixView A) → IsTableOf k24_laws exact act m → IsTableOf f.laws value act m
+  table_carried act m h = to_short f value exact e (λ g v. IsTableOf g.laws v act m) h
 
   pub few_carried : (act : Action) (n : ℕ) → (AreMoreFixes f.laws act n → ⊥) → AreMoreFixes k24_laws act n → ⊥
   few_carried act n h = to_long f value exact e (λ g v. AreMoreFixes g.laws act n → ⊥) h

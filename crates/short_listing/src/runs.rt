@@ -17,7 +17,7 @@ use crate::forms::lengthened_listing;
 use class_list::{ListError, Listing, Order, listing};
 use cyclo24::{Field, K24, Short, ShortK24, ShortRational};
 use fix_lattice::{CloseError, close};
-use lin_alg::{Acts, Steps};
+use lin_alg::{Acts, LinError, Steps};
 use std::alloc::Global;
 use std::sync::ledger::Ledger;
 
@@ -73,8 +73,12 @@ fn listing_in_short<S: Short, G: Acts<K24>, L: Ledger>(
     ensures few { OnOk result (AreMoreFixes k24_laws (G.action acts.now) limit → ⊥) }
     ensures many { (result ≡ Err listing_error.TooManySubspaces) → AreMoreFixes k24_laws (G.action acts.now) limit }
 {
-    let short = ShortActs::new(acts);
-    match listing_in::<S, ShortActs<G>, L>(alloc, &short, limit, order, steps) {
+    let short = match ShortActs::<S, G>::new(alloc, acts) {
+        Ok(short) => short,
+        Err(LinError::Wide) => return Err(ListingError::WideSubspace),
+        Err(LinError::NoMemory) => return Err(ListingError::NoMemory),
+    };
+    match listing_in::<S, ShortActs<S, G>, L>(alloc, &short, limit, order, steps) {
         Ok(listing) => match lengthened_listing(alloc, &listing) {
             Ok(listing) => Ok(listing),
             Err(_) => Err(ListingError::NoMemory),
@@ -83,13 +87,26 @@ fn listing_in_short<S: Short, G: Acts<K24>, L: Ledger>(
     }
 }
 
-// Whether a row of the matrix of q can be given over a field. The lent row is only room.
-fn can_give<F: Field, G: Acts<F>>(acts: &G, q: usize, row: &mut [F]) -> bool
+// Whether all entries of the matrix of q are short rational numbers. The lent row is only room.
+fn is_rational_at<G: Acts<K24>>(acts: &G, q: usize, row: &mut [K24]) -> bool
     requires element { q < (G.action acts.now).group.order }
     requires room { length row.old ≡ (G.action acts.now).dim }
 {
     for i in 0..acts.dim() {
         if acts.row(q, i, row).is_err() {
+            return false;
+        }
+        if !is_rational_row(row) {
+            return false;
+        }
+    }
+    true
+}
+
+// Whether all entries of a row are short rational numbers.
+fn is_rational_row(row: &[K24]) -> bool {
+    for entry in row {
+        if ShortRational::from_k24(*entry).is_none() {
             return false;
         }
     }
@@ -100,12 +117,10 @@ fn can_give<F: Field, G: Acts<F>>(acts: &G, q: usize, row: &mut [F]) -> bool
 fn is_rational<G: Acts<K24>>(acts: &G) -> bool
     requires { (G.action acts.now).dim ≤ 24 }
 {
-    let short = ShortActs::new(acts);
-    let mut buffer = [ShortRational::zero(); 24];
+    let mut buffer = [K24::zero(); 24];
     let row = &mut buffer[..acts.dim()];
     for i in 0..acts.generators() {
-        let q = acts.generator(i);
-        if !can_give::<ShortRational, ShortActs<G>>(&short, q, row) {
+        if !is_rational_at(acts, acts.generator(i), row) {
             return false;
         }
     }

@@ -1,4 +1,0 @@
--- The modules, each behind those that it stands on.
-
--- rows with one entry written
-pub mod RowLemmas

@@ -16,35 +16,35 @@ pub returns-in-Ok-lengthened_listing-clause-listing :
 returns-in-Ok-lengthened_listing-clause-listing g c =
     let f = g.S.Field.field in
     let v = g.S.Field.value in
-    let act = g.G.Acts.action c.new-short.result.acts.now in
+    let act = g.G.Acts.action c.in-Ok.short.acts.now in
     let found = c.in-Ok-lengthened_listing.listing in
-    let h : IsListing f.laws f.cmp act c.args.order (directions_of f.laws v c.in-Ok.listing) = c.in-Ok.ensures.listing in
-    subst (λ a. IsListing k24_laws k24.cmp (g.G.Acts.action a) c.args.order (directions_of k24_laws exact24 found)) c.new-short.ensures
-    (listing_carried f v g.S.Short.exact g.met.S.Short.is_short act c.args.order c.in-Ok.listing found c.in-Ok-lengthened_listing.ensures.directions h)
+    let h : IsListing f.laws f.cmp act c.args.order (directions_of f.laws v c.in-Ok-listing_in.listing) = c.in-Ok-listing_in.ensures.listing in
+    subst (λ a. IsListing k24_laws k24.cmp (g.G.Acts.action a) c.args.order (directions_of k24_laws exact24 found)) c.in-Ok.ensures
+    (listing_carried f v g.S.Short.exact g.met.S.Short.is_short act c.args.order c.in-Ok-listing_in.listing found c.in-Ok-lengthened_listing.ensures.directions h)
 
 pub returns-in-Ok-lengthened_listing-clause-forms :
     goal.returns-in-Ok-lengthened_listing-clause-forms
 returns-in-Ok-lengthened_listing-clause-forms g c =
     let f = g.S.Field.field in
     let v = g.S.Field.value in
-    let act = g.G.Acts.action c.new-short.result.acts.now in
+    let act = g.G.Acts.action c.in-Ok.short.acts.now in
     let found = c.in-Ok-lengthened_listing.listing in
-    let h : AreWholeForms f.laws v act.dim (map (λ d. d.equations) c.in-Ok.listing) = c.in-Ok.ensures.forms in
-    subst (λ a. AreWholeForms k24_laws exact24 (g.G.Acts.action a).dim (map (λ d. d.equations) found)) c.new-short.ensures
-    (forms_carried f.laws v act.dim c.in-Ok.listing (map (λ d. d.equations) found) h c.in-Ok-lengthened_listing.ensures.forms)
+    let h : AreWholeForms f.laws v act.dim (map (λ d. d.equations) c.in-Ok-listing_in.listing) = c.in-Ok-listing_in.ensures.forms in
+    subst (λ a. AreWholeForms k24_laws exact24 (g.G.Acts.action a).dim (map (λ d. d.equations) found)) c.in-Ok.ensures
+    (forms_carried f.laws v act.dim c.in-Ok-listing_in.listing (map (λ d. d.equations) found) h c.in-Ok-lengthened_listing.ensures.forms)
 
 pub returns-in-Ok-lengthened_listing-clause-few : goal.returns-in-Ok-lengthened_listing-clause-few
 returns-in-Ok-lengthened_listing-clause-few g c =
     let f = g.S.Field.field in
-    let act = g.G.Acts.action c.new-short.result.acts.now in
-    let h : AreMoreFixes f.laws act c.args.limit → ⊥ = c.in-Ok.ensures.few in
-    subst (λ a. AreMoreFixes k24_laws (g.G.Acts.action a) c.args.limit → ⊥) c.new-short.ensures
+    let act = g.G.Acts.action c.in-Ok.short.acts.now in
+    let h : AreMoreFixes f.laws act c.args.limit → ⊥ = c.in-Ok-listing_in.ensures.few in
+    subst (λ a. AreMoreFixes k24_laws (g.G.Acts.action a) c.args.limit → ⊥) c.in-Ok.ensures
     (few_carried f g.S.Field.value g.S.Short.exact g.met.S.Short.is_short act c.args.limit h)
 
 pub returns-clause-many : goal.returns-clause-many
 returns-clause-many g c = λ p.
     let f = g.S.Field.field in
-    let act = g.G.Acts.action c.new-short.result.acts.now in
+    let act = g.G.Acts.action c.in-Ok.short.acts.now in
     let h : AreMoreFixes f.laws act c.args.limit = c.in-Err.ensures.many (ap Err (err_is p)) in
-    subst (λ a. AreMoreFixes k24_laws (g.G.Acts.action a) c.args.limit) c.new-short.ensures
+    subst (λ a. AreMoreFixes k24_laws (g.G.Acts.action a) c.args.limit) c.in-Ok.ensures
     (many_carried f g.S.Field.value g.S.Short.exact g.met.S.Short.is_short act c.args.limit h)

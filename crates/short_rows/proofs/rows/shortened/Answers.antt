@@ -2,7 +2,7 @@ use Rattle.std.proofs.Common.{◌<◌, ◌∙◌, sym, length, arith}
 use Rattle.cyclo24.specs.ExactK24.{k24_laws}
 use Rattle.cyclo24.specs.K24.{exact24}
 use Rattle.lin_alg.specs.Rows.{vector}
-use Rattle.short_rows.proofs.RowLemmas.{written_below, read_at}
+use Rattle.short_rows.specs.RowLaws.{written_below, read_at}
 use Rattle.short_rows.proofs.rows.shortened.Goals as goal
 
 pub loop-j-preserved : goal.loop-j-preserved
