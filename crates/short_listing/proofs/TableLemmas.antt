@@ -1,5 +1,5 @@
 -- Places and rows of a table of matrices.
-use Rattle.std.proofs.Common.{◌≡◌, ℕ, zero, suc, ◌+◌, ◌*◌, ◌/◌, ◌%◌, ◌<◌, ◌≤◌, ◌^◌, ◌&&◌, true, false, refl, ◌∙◌, ap, sym, subst, arith, nat_eq, below_more, if◌then◌else◌}
+use Rattle.std.proofs.Common.{◌≡◌, ℕ, zero, suc, ◌+◌, ◌*◌, ◌/◌, ◌%◌, ◌<◌, ◌≤◌, ◌^◌, ◌&&◌, refl, ◌∙◌, ap, subst, arith, nat_eq, below_more, if◌then◌else◌}
 use Rattle.std.proofs.lemmas.Nat.{mul-add-lt, div-mul-add, mod-mul-add, mul-le}
 use Rattle.lin_alg.specs.EquationLaws.{eq-self, eq-other}
 use Rattle.lin_alg.specs.Matrix.{with_entry}

@@ -4,8 +4,7 @@
 -- lines_rows, lines_form, lines_pushed, same_count: rows of the same exact values
 -- forms_carried, directions_next, widths_next: forms and directions of the same exact rows
 use Rattle.std.specs.Prelude.{◌≡◌, ◌<◌, ℕ, true, List, [], ◌∷◌, ◌++◌, Some, length, map, get_or, slice_get, take, refl, suc, zero}
-use Rattle.std.proofs.Common.{◌+◌, ap, ◌∙◌, sym, subst, set, arith, length-set, below_more}
-use Rattle.std.proofs.lemmas.List.{get_or-map, get_or-set_same, get_or-set_other, map-set}
+use Rattle.std.proofs.Common.{◌+◌, ap, ◌∙◌, sym, subst, arith}
 use Rattle.cyclo24.specs.declared.k24.K24.{K24}
 use Rattle.cyclo24.specs.FieldOn.{FieldOn}
 use Rattle.cyclo24.specs.ExactField.{ExactField, Value}
