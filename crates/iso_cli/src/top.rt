@@ -52,11 +52,11 @@ fn answer<O: Sink, E: Sink>(
     bytes: &[u8],
     out: &mut O,
     err: &mut E,
-    watchers: &mut Vec<Box<dyn Watch>>,
+    watchers: &mut [Box<dyn Watch>],
 ) -> Status
     requires number { HasNumber job }
     requires few { length bytes.now ≤ MAX_BYTES }
-    ensures answers { Answers job (map (λ w. watcher w) watchers.old.items) bytes.now result
+    ensures answers { Answers job (map (λ w. watcher w) watchers.old) bytes.now result
         (change (O.written out.old) (O.written out.new) (O.faults out.old) (O.faults out.new))
         (change (E.written err.old) (E.written err.new) (E.faults err.old) (E.faults err.new)) }
     ensures refused { result ≡ Status.Refused → (r : Refusal) × Says (line_of r) (change (E.written err.old) (E.written err.new) (E.faults err.old) (E.faults err.new)) }
@@ -80,10 +80,10 @@ fn answer_source<S: Source, O: Sink, E: Sink>(
     source: &mut S,
     out: &mut O,
     err: &mut E,
-    watchers: &mut Vec<Box<dyn Watch>>,
+    watchers: &mut [Box<dyn Watch>],
 ) -> Status
     requires number { HasNumber job }
-    ensures answers { IfSome (S.left source.old) (λ bytes. Answers job (map (λ w. watcher w) watchers.old.items) bytes result
+    ensures answers { IfSome (S.left source.old) (λ bytes. Answers job (map (λ w. watcher w) watchers.old) bytes result
         (change (O.written out.old) (O.written out.new) (O.faults out.old) (O.faults out.new))
         (change (E.written err.old) (E.written err.new) (E.faults err.old) (E.faults err.new))) }
     ensures refused_out { result ≡ Status.Refused → out.new ≡ out.old }
@@ -112,10 +112,10 @@ fn answer_job<S: Source, O: Sink, E: Sink>(
     source: &mut S,
     out: &mut O,
     err: &mut E,
-    watchers: &mut Vec<Box<dyn Watch>>,
+    watchers: &mut [Box<dyn Watch>],
 ) -> Status
     requires number { HasNumber job }
-    ensures answers { IfSome (taken_by job (S.left source.old)) (λ bytes. Answers job (map (λ w. watcher w) watchers.old.items) bytes result
+    ensures answers { IfSome (taken_by job (S.left source.old)) (λ bytes. Answers job (map (λ w. watcher w) watchers.old) bytes result
         (change (O.written out.old) (O.written out.new) (O.faults out.old) (O.faults out.new))
         (change (E.written err.old) (E.written err.new) (E.faults err.old) (E.faults err.new))) }
     ensures unread { IsSome (generated job) → source.new ≡ source.old }

@@ -1,5 +1,5 @@
 -- The bytes of the file that a job is about: those of the source, or those of a generated file.
-use Rattle.std.proofs.Common.{◌≡◌, refl, sym, subst, ℕ, ◌<◌, List, Option, Some, None, Result}
+use Rattle.std.proofs.Common.{◌≡◌, inl, inr, refl, sym, subst, ℕ, ◌<◌, List, Option, Some, None, Result, Ok, Err}
 use Rattle.std.proofs.lemmas.Option.{same_Some}
 use Rattle.demo_files.specs.Demo.{IsDemoFile}
 use Rattle.iso_watch.specs.Watchers.{Watcher}

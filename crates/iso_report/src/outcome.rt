@@ -256,12 +256,12 @@ pub fn run<O: Sink>(
     alloc: Global,
     job: &Job,
     bytes: &[u8],
-    watchers: &mut Vec<Box<dyn Watch>>,
+    watchers: &mut [Box<dyn Watch>],
     out: &mut O,
 ) -> Result<(), RunError>
     requires number { HasNumber job.now }
     requires few { length bytes.now ≤ MAX_BYTES }
-    ensures answer { Ends (IsOutcome job.now (map (λ w. watcher w) watchers.old.items) (map (λ w. watcher w) watchers.new.items) bytes.now) (left (change (O.written out.old) (O.written out.new) (O.faults out.old) (O.faults out.new)) (map (λ w. watcher w) watchers.old.items) (map (λ w. watcher w) watchers.new.items)) result }
+    ensures answer { Ends (IsOutcome job.now (map (λ w. watcher w) watchers.old) (map (λ w. watcher w) watchers.new) bytes.now) (left (change (O.written out.old) (O.written out.new) (O.faults out.old) (O.faults out.new)) (map (λ w. watcher w) watchers.old) (map (λ w. watcher w) watchers.new)) result }
     ensures untouched { (r : Refusal) → IsErrOf result (RunError.Refused r) → out.new ≡ out.old }
     ensures faults { O.faults out.old ≤ O.faults out.new }
 {

@@ -2,6 +2,7 @@ use Rattle.std.proofs.Common.{subst, sym, refl}
 use Rattle.iso_text.specs.Ranges.{IsInRange}
 use Rattle.report_steps.specs.Contexts.{Divided}
 use Rattle.report_steps.specs.Stages.{RefusesReps, AreWideReps, HaveReps}
+use Rattle.iso_report.specs.Outcome.{IsFound, AfterReps}
 use Rattle.iso_report.proofs.EndingLemmas.{grown_by_nothing, step-wide, step-ends}
 use Rattle.iso_report.proofs.outcome.after_order.Goals as goal
 
@@ -16,7 +17,7 @@ after_reps-requires-clause-ranged g c =
 pub returns-in-Ok-Passed-clause-answer : goal.returns-in-Ok-Passed-clause-answer
 returns-in-Ok-Passed-clause-answer g c =
     let passed = rw c.in-Ok-Passed.field-0-is at c.in-Ok-Passed.ensures in
-    step-ends RefusesReps AreWideReps HaveReps _ c.args.celled.divided c.in-Ok-Passed.represented.divided passed.0 _ c.after_reps.result c.after_reps.ensures.answer
+    step-ends RefusesReps AreWideReps HaveReps (AfterReps (IsFound c.args.job.now _ _)) c.args.celled.divided c.in-Ok-Passed.represented.divided passed.0 _ c.after_reps.result c.after_reps.ensures.answer
 
 pub returns-in-Ok-Refused-clause-answer : goal.returns-in-Ok-Refused-clause-answer
-returns-in-Ok-Refused-clause-answer g c = (step-wide RefusesReps AreWideReps HaveReps _ c.args.celled.divided c.in-Ok-Refused.refusal (rw c.in-Ok-Refused.field-0-is at c.in-Ok-Refused.ensures), grown_by_nothing (g.O.Sink.written c.args.out.now), refl)
+returns-in-Ok-Refused-clause-answer g c = (step-wide RefusesReps AreWideReps HaveReps (AfterReps (IsFound c.args.job.now _ _)) c.args.celled.divided c.in-Ok-Refused.refusal (rw c.in-Ok-Refused.field-0-is at c.in-Ok-Refused.ensures), grown_by_nothing (g.O.Sink.written c.args.out.now), refl)
