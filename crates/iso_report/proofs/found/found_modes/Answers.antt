@@ -1,4 +1,4 @@
-use Rattle.std.proofs.Common.{◌≡◌, ◌∙◌, refl, inr}
+use Rattle.std.proofs.Common.{inl, ◌≡◌, ◌∙◌, refl, inr}
 use Rattle.std.specs.List.{concat}
 use Rattle.mode_report.specs.Atoms.{RefusesAtoms}
 use Rattle.mode_report.specs.Held.{told_in}
@@ -27,3 +27,6 @@ pub returns-in-Ok-Refused-clause-answer : goal.returns-in-Ok-Refused-clause-answ
 returns-in-Ok-Refused-clause-answer g c =
     let d = c.args.file.divided in
     (step-wide RefusesAtoms AreWideAll AreToldOf (IsReported d.file.format) d c.in-Ok-Refused.refusal (rw c.in-Ok-Refused.field-0-is at c.in-Ok-Refused.ensures), grown_by_nothing (g.O.Sink.written c.args.out.now), refl)
+
+pub returns-in-Err-new-clause-answer : goal.returns-in-Err-new-clause-answer
+returns-in-Err-new-clause-answer g c = inl (grown_by_nothing (g.O.Sink.written c.args.out.now), refl)

@@ -1,4 +1,4 @@
-use Rattle.std.proofs.Common.{subst, sym, refl}
+use Rattle.std.proofs.Common.{inl, subst, sym, refl}
 use Rattle.iso_text.specs.Ranges.{IsInRange}
 use Rattle.report_steps.specs.Contexts.{Divided}
 use Rattle.report_steps.specs.Stages.{RefusesDimensions, AreWideInduced, HaveInduced}
@@ -22,3 +22,6 @@ returns-in-Ok-Passed-clause-answer g c =
 pub returns-in-Ok-Refused-clause-answer : goal.returns-in-Ok-Refused-clause-answer
 returns-in-Ok-Refused-clause-answer g c =
     (step-wide RefusesDimensions AreWideInduced HaveInduced (IsFound c.args.job.now _ _) c.args.represented.divided c.in-Ok-Refused.refusal (rw c.in-Ok-Refused.field-0-is at c.in-Ok-Refused.ensures), grown_by_nothing (g.O.Sink.written c.args.out.now), refl)
+
+pub returns-in-Err-clause-answer : goal.returns-in-Err-clause-answer
+returns-in-Err-clause-answer g c = inl (grown_by_nothing (g.O.Sink.written c.args.out.now), refl)
