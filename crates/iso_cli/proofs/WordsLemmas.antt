@@ -1,15 +1,10 @@
 -- What is answered to the words: want of memory for reading them.
-use Rattle.std.proofs.Common.{◌≡◌, ◌∙◌, ℕ, true, List, Option, Some, None, IfSome, refl, sym, ap, subst}
-use Rattle.std.specs.Prelude.{option_and_then}
+use Rattle.std.proofs.Common.{◌≡◌, ℕ, List, Option, Some, None, IfSome, sym, subst}
+use Rattle.iso_watch.specs.Watchers.{Watcher}
 use Rattle.iso_report.specs.Endings.{Change, change}
-use Rattle.iso_report.specs.Jobs.{is_built}
 use Rattle.iso_report.specs.declared.job.Job.{Job}
-use Rattle.report_steps.specs.Report.{line_of}
-use Rattle.report_steps.specs.declared.refusal.Refusal.{Refusal}
-use Rattle.iso_cli.specs.Answers.{Answers, Says, SaysRefusal, SaysUsage, memory_line}
-use Rattle.iso_cli.specs.Built.{built_job_of, if_built, taken_by}
-use Rattle.iso_cli.specs.JobOf.{job_of}
-use Rattle.iso_cli.specs.Options.{Text}
+use Rattle.iso_cli.specs.Answers.{Answers, Says, SaysUsage, memory_line}
+use Rattle.iso_cli.specs.Reading.{taken_by}
 use Rattle.iso_cli.specs.declared.status.Status.{Status}
 use Rattle.iso_cli.specs.declared.status.Status.TheVariants as status
 use Rattle.iso_cli.proofs.Lines.{memory_answer}

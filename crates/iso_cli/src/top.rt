@@ -52,11 +52,11 @@ fn answer<O: Sink, E: Sink>(
     bytes: &[u8],
     out: &mut O,
     err: &mut E,
-    watchers: &mut [Box<dyn Watch>],
+    watchers: &mut Vec<Box<dyn Watch>>,
 ) -> Status
     requires number { HasNumber job }
     requires few { length bytes.now ≤ MAX_BYTES }
-    ensures answers { Answers job (map (λ w. watcher w) watchers.old) bytes.now result
+    ensures answers { Answers job (map (λ w. watcher w) watchers.old.items) bytes.now result
         (change (O.written out.old) (O.written out.new) (O.faults out.old) (O.faults out.new))
         (change (E.written err.old) (E.written err.new) (E.faults err.old) (E.faults err.new)) }
     ensures refused { result ≡ Status.Refused → (r : Refusal) × Says (line_of r) (change (E.written err.old) (E.written err.new) (E.faults err.old) (E.faults err.new)) }
@@ -80,10 +80,10 @@ fn answer_source<S: Source, O: Sink, E: Sink>(
     source: &mut S,
     out: &mut O,
     err: &mut E,
-    watchers: &mut [Box<dyn Watch>],
+    watchers: &mut Vec<Box<dyn Watch>>,
 ) -> Status
     requires number { HasNumber job }
-    ensures answers { IfSome (S.left source.old) (λ bytes. Answers job (map (λ w. watcher w) watchers.old) bytes result
+    ensures answers { IfSome (S.left source.old) (λ bytes. Answers job (map (λ w. watcher w) watchers.old.items) bytes result
         (change (O.written out.old) (O.written out.new) (O.faults out.old) (O.faults out.new))
         (change (E.written err.old) (E.written err.new) (E.faults err.old) (E.faults err.new))) }
     ensures refused_out { result ≡ Status.Refused → out.new ≡ out.old }
@@ -112,10 +112,10 @@ fn answer_job<S: Source, O: Sink, E: Sink>(
     source: &mut S,
     out: &mut O,
     err: &mut E,
-    watchers: &mut [Box<dyn Watch>],
+    watchers: &mut Vec<Box<dyn Watch>>,
 ) -> Status
     requires number { HasNumber job }
-    ensures answers { IfSome (taken_by job (S.left source.old)) (λ bytes. Answers job (map (λ w. watcher w) watchers.old) bytes result
+    ensures answers { IfSome (taken_by job (S.left source.old)) (λ bytes. Answers job (map (λ w. watcher w) watchers.old.items) bytes result
         (change (O.written out.old) (O.written out.new) (O.faults out.old) (O.faults out.new))
         (change (E.written err.old) (E.written err.new) (E.faults err.old) (E.faults err.new))) }
     ensures unread { IsSome (generated job) → source.new ≡ source.old }
@@ -134,6 +134,62 @@ fn answer_job<S: Source, O: Sink, E: Sink>(
     match job.generated() {
         Some(_) => answer(alloc, job, b"", out, err, watchers),
         None => answer_source(alloc, job, source, out, err, watchers),
+    }
+}
+
+// Answers the words over the source, with the watchers lent.
+fn answer_words<'a, S: Source, O: Sink, E: Sink>(
+    alloc: Global,
+    words: &'a [&'a str],
+    source: &mut S,
+    out: &mut O,
+    err: &mut E,
+    watchers: &mut Vec<Box<dyn Watch>>,
+) -> Status
+    // Words that name no job are usage.
+    ensures usage { IsNone (job_of (texts_of words.now)) → AnswersUsage result
+        (change (O.written out.old) (O.written out.new) (O.faults out.old) (O.faults out.new))
+        (change (E.written err.old) (E.written err.new) (E.faults err.old) (E.faults err.new)) }
+    ensures usage_only { result ≡ Status.Usage → IsNone (job_of (texts_of words.now)) }
+
+    // Without a job that is about the file of the source, the source is left unread.
+    ensures unread { IsNone (reading_job_of (texts_of words.now)) → source.new ≡ source.old }
+    ensures no_read_fault { IsNone (reading_job_of (texts_of words.now)) → result ≢ Status.ReadFault }
+    ensures unwritten { IsNone (job_of (texts_of words.now)) → out.new ≡ out.old }
+
+    // A job is answered as the definitions say of the watchers and of all the bytes that it takes.
+    ensures job { IfSome (job_of (texts_of words.now)) (λ job. IfSome (taken_by job (S.left source.old)) (λ bytes. Answers job (map (λ w. watcher w) watchers.old.items) bytes result
+        (change (O.written out.old) (O.written out.new) (O.faults out.old) (O.faults out.new))
+        (change (E.written err.old) (E.written err.new) (E.faults err.old) (E.faults err.new)))) }
+
+    // Where the definitions give a report of few enough bytes, and no number passes its bound, these are
+    // not refused; where they refuse the bytes, besides such a number, no report is written, whole or in
+    // part.
+    ensures complete { IfSome (job_of (texts_of words.now)) (λ job. IfSome (taken_by job (S.left source.old)) (λ bytes.
+        length bytes ≤ MAX_BYTES → IsNarrow job (map (λ w. watcher w) watchers.old.items) bytes → (r : List ℕ) → HasOutcome job (map (λ w. watcher w) watchers.old.items) bytes (report r) → result ≢ Status.Refused)) }
+    ensures sound { IfSome (job_of (texts_of words.now)) (λ job. IfSome (taken_by job (S.left source.old)) (λ bytes.
+        (r : Refusal) → IsNotWide r → HasOutcome job (map (λ w. watcher w) watchers.old.items) bytes (refused r) → (result ≢ Status.Done) × (result ≢ Status.WriteFault))) }
+
+    // Over all streams: out is as it was after a refusal and a read fault, and each fault has its count.
+    ensures refused_out { result ≡ Status.Refused → out.new ≡ out.old }
+    ensures read_fault_out { result ≡ Status.ReadFault → out.new ≡ out.old }
+    ensures read_fault { result ≡ Status.ReadFault → HasRisen (S.faults source.old) (S.faults source.new) }
+    ensures write_fault { result ≡ Status.WriteFault → HasRisen (O.faults out.old) (O.faults out.new) }
+
+    // What a job about the file of the source has read: all that was left, but of a file that is too long.
+    ensures drained { result ≡ Status.Done → IfSome (reading_job_of (texts_of words.now)) (λ _. IfSome (S.left source.old) (λ _. S.left source.new ≡ Some [])) }
+    ensures refused { result ≡ Status.Refused → IfSome (reading_job_of (texts_of words.now)) (λ _. IfSome (S.left source.old) (λ bytes. (MAX_BYTES < length bytes) ⊎ (S.left source.new ≡ Some []))) }
+    ensures too_long { result ≡ Status.Refused → (S.taken source.new ≡ raised (MAX_BYTES + 1) (S.taken source.old)) ⊎ ((r : Refusal) × Says (line_of r) (change (E.written err.old) (E.written err.new) (E.faults err.old) (E.faults err.new))) }
+    ensures taken { S.taken source.new ≤ S.taken source.old + (MAX_BYTES + 1) }
+    ensures rest { IsRestOf (S.left source.old) (S.left source.new) }
+{
+    match read_words(alloc, words) {
+        Ok(Some(job)) => {
+            law_of_outcomes();
+            answer_job(alloc, job, source, out, err, watchers)
+        }
+        Ok(None) => say(err, usage_line().as_bytes(), Status::Usage),
+        Err(_) => say(err, OUT_OF_MEMORY.as_bytes(), Status::NoMemory),
     }
 }
 
@@ -187,12 +243,5 @@ pub fn isodist<'a, S: Source, O: Sink, E: Sink>(
     ensures taken { S.taken source.new ≤ S.taken source.old + (MAX_BYTES + 1) }
     ensures rest { IsRestOf (S.left source.old) (S.left source.new) }
 {
-    match read_words(alloc, words) {
-        Ok(Some(job)) => {
-            law_of_outcomes();
-            answer_job(alloc, job, source, out, err, &mut watchers)
-        }
-        Ok(None) => say(err, usage_line().as_bytes(), Status::Usage),
-        Err(_) => say(err, OUT_OF_MEMORY.as_bytes(), Status::NoMemory),
-    }
+    answer_words(alloc, words, source, out, err, &mut watchers)
 }

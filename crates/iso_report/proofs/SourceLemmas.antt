@@ -1,5 +1,6 @@
 -- The bytes of the file that a job is about: those of the source, or those of a generated file.
-use Rattle.std.proofs.Common.{◌≡◌, inl, inr, refl, sym, subst, ℕ, ◌<◌, List, Option, Some, None, Result, Ok, Err}
+use Rattle.std.proofs.Common.{◌≡◌, ◌∙◌, ◌++◌, inl, inr, refl, sym, ap, subst, ℕ, ◌<◌, List, length, map, take, drop, Option, Some, None, Result, Ok, Err, arith}
+use Rattle.std.proofs.lemmas.List.{append-nil, drop_all, take_all}
 use Rattle.std.proofs.lemmas.Option.{same_Some}
 use Rattle.demo_files.specs.Demo.{IsDemoFile}
 use Rattle.iso_watch.specs.Watchers.{Watcher}
@@ -55,3 +56,14 @@ number-below (job.Link irrep other) number h e = absurd (cc)
 number-below (job.Extra nature amps) number h e = absurd (cc)
 number-below job.Apart number h e = absurd (cc)
 number-below (job.Demo n) number h e = subst (λ (k : ℕ). k < 64) (same_Some n number (sym e)) h
+
+-- the watchers by the elements of a list that is the same before, and another that is the same after
+pub moved-ends : {A W : Type 0} (f : W → Watcher) (j : Job) (out : Change) (bytes : List ℕ) (r : Result A RunError) (xs ys zs ws : List W) → xs ≡ zs → ys ≡ ws
+    → Ends (IsOutcome j (map f xs) (map f ys) bytes) (left out (map f xs) (map f ys)) r → Ends (IsOutcome j (map f zs) (map f ws) bytes) (left out (map f zs) (map f ws)) r
+moved-ends f j out bytes r xs ys zs ws e k h =
+    subst (λ us. Ends (IsOutcome j (map f zs) (map f us) bytes) (left out (map f zs) (map f us)) r) k
+    (subst (λ us. Ends (IsOutcome j (map f us) (map f ys) bytes) (left out (map f us) (map f ys)) r) e h)
+
+-- a whole list written back in place of another
+pub written-back : {W : Type 0} (xs ys : List W) (n : ℕ) → length xs ≡ n → length ys ≡ n → xs ≡ take n (xs ++ drop (length xs) ys)
+written-back xs ys n e k = sym (ap (λ zs. take n (xs ++ zs)) (drop_all (length xs) ys (omega (arith, e, k))) ∙ ap (take n) (append-nil xs) ∙ take_all n xs (omega (arith, e)))

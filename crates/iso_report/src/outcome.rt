@@ -243,16 +243,8 @@ fn run_generated<O: Sink>(
     }
 }
 
-/// Writes the report of a job on out, or says why not: over the bytes of a source, or over those of
-/// the generated file that the job is about, whatever the source has. Condition: a number of a generated
-/// file below 64, and at most `MAX_BYTES` bytes.
-///
-/// `list` tells each watcher of each direction of its page, which ends after the first direction after
-/// which one of them has enough; no other job tells any. After a refusal out and the watchers are as they
-/// were. After a failed write out has a prefix of the report, and counted a fault. After want of memory
-/// nothing is written and no watcher told, or the watchers are told of the whole page and out has a prefix
-/// of the report.
-pub fn run<O: Sink>(
+// The report of a job on out, or why not, with the watchers lent as a slice.
+fn run_with<O: Sink>(
     alloc: Global,
     job: &Job,
     bytes: &[u8],
@@ -269,4 +261,29 @@ pub fn run<O: Sink>(
         Some(number) => run_generated(alloc, job, number, watchers, out),
         None => run_over(alloc, job, bytes, watchers, out),
     }
+}
+
+/// Writes the report of a job on out, or says why not: over the bytes of a source, or over those of
+/// the generated file that the job is about, whatever the source has. Condition: a number of a generated
+/// file below 64, and at most `MAX_BYTES` bytes.
+///
+/// `list` tells each watcher of each direction of its page, which ends after the first direction after
+/// which one of them has enough; no other job tells any. After a refusal out and the watchers are as they
+/// were. After a failed write out has a prefix of the report, and counted a fault. After want of memory
+/// nothing is written and no watcher told, or the watchers are told of the whole page and out has a prefix
+/// of the report.
+pub fn run<O: Sink>(
+    alloc: Global,
+    job: &Job,
+    bytes: &[u8],
+    watchers: &mut Vec<Box<dyn Watch>>,
+    out: &mut O,
+) -> Result<(), RunError>
+    requires number { HasNumber job.now }
+    requires few { length bytes.now ≤ MAX_BYTES }
+    ensures answer { Ends (IsOutcome job.now (map (λ w. watcher w) watchers.old.items) (map (λ w. watcher w) watchers.new.items) bytes.now) (left (change (O.written out.old) (O.written out.new) (O.faults out.old) (O.faults out.new)) (map (λ w. watcher w) watchers.old.items) (map (λ w. watcher w) watchers.new.items)) result }
+    ensures untouched { (r : Refusal) → IsErrOf result (RunError.Refused r) → out.new ≡ out.old }
+    ensures faults { O.faults out.old ≤ O.faults out.new }
+{
+    run_with(alloc, job, bytes, watchers, out)
 }

@@ -1,11 +1,13 @@
-use Rattle.iso_report.proofs.SourceLemmas.{source-ends, generated-ends, number-below}
+use Rattle.std.proofs.Common.{◌≡◌, ◌∙◌, length, arith}
+use Rattle.iso_report.specs.Endings.{change}
+use Rattle.iso_report.proofs.SourceLemmas.{moved-ends, written-back}
 use Rattle.iso_report.proofs.outcome.run.Goals as goal
 
-pub run_generated-requires : goal.run_generated-requires
-run_generated-requires g c = record { number = number-below c.args.job.now c.in-Some.number c.requires.number c.in-Some.ensures }
-
-pub returns-in-Some-clause-answer : goal.returns-in-Some-clause-answer
-returns-in-Some-clause-answer g c = generated-ends c.args.job.now _ _ _ c.run_generated.result c.args.bytes.now c.in-Some.number c.in-Some.ensures c.run_generated.ensures.answer
-
-pub returns-in-None-clause-answer : goal.returns-in-None-clause-answer
-returns-in-None-clause-answer g c = source-ends c.args.job.now _ _ _ c.run_over.result c.args.bytes.now c.in-None.ensures c.run_over.ensures.answer
+pub returns-clause-answer : goal.returns-clause-answer
+returns-clause-answer g c =
+    let v = c.args.watchers.now in
+    let told = c.run_with.new.watchers in
+    let k : length told ≡ v.len = c.run_with.auto.watchers ∙ c.deref_mut.ensures.len in
+    let n : length v.items ≡ v.len = omega (arith, v.ok.0) in
+    let out = change (g.O.Sink.written c.args.out.now) (g.O.Sink.written c.run_with.new.out) (g.O.Sink.faults c.args.out.now) (g.O.Sink.faults c.run_with.new.out) in
+    moved-ends _ c.args.job.now out c.args.bytes.now c.run_with.result c.deref_mut.result.now told v.items _ c.deref_mut.ensures.value (written-back told v.items v.len k n) c.run_with.ensures.answer
