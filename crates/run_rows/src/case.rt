@@ -54,25 +54,8 @@ fn words_of<'a>(alloc: Global, line: &'a str) -> Result<Vec<&'a str>, AllocError
     Ok(words)
 }
 
-// Adds the watchers of a part: `tally` and `upto N`, with commas between them; by default one tally.
-fn add_watchers(
-    alloc: Global,
-    watchers: &mut Vec<Box<dyn Watch>>,
-    part: Option<&str>,
-) -> Result<(), AllocError> {
-    for name in part.unwrap_or("tally").split(',') {
-        match name.split_once(' ') {
-            Some(("upto", limit)) => {
-                let limit = limit.parse().unwrap_or(0);
-                watchers.push(Box::new(alloc, Upto::new(limit))?)?;
-            }
-            _ => watchers.push(Box::new(alloc, Tally::new())?)?,
-        }
-    }
-    Ok(())
-}
-
-/// What the program answers to a case.
+/// What the program answers to a case. Its watchers are those of the last part, `tally` and `upto N` with
+/// commas between them; by default one tally.
 pub fn answer(alloc: Global, case: &str) -> Result<Text, NoMemory> {
     let (head, body) = case.split_once('\n').unwrap_or((case, ""));
     let mut parts = head.split(" | ");
@@ -81,7 +64,21 @@ pub fn answer(alloc: Global, case: &str) -> Result<Text, NoMemory> {
     let mut out = sink_of(alloc, parts.next())?;
     let mut err = sink_of(alloc, parts.next())?;
     let mut watchers: Vec<Box<dyn Watch>> = Vec::new(alloc);
-    add_watchers(alloc, &mut watchers, parts.next())?;
+    for name in parts.next().unwrap_or("tally").split(',') {
+        let is_added = match name.split_once(' ') {
+            Some(("upto", limit)) => match Box::new(alloc, Upto::new(limit.parse().unwrap_or(0))) {
+                Ok(upto) => watchers.push(upto).is_ok(),
+                Err(_) => false,
+            },
+            _ => match Box::new(alloc, Tally::new()) {
+                Ok(tally) => watchers.push(tally).is_ok(),
+                Err(_) => false,
+            },
+        };
+        if !is_added {
+            return Err(NoMemory);
+        }
+    }
     let status = isodist(alloc, &words, &mut source, &mut out, &mut err, watchers);
     print(alloc, head, status.code(), out.as_slice(), err.as_slice())
 }
